@@ -7,7 +7,11 @@ ghost use Rattle.word.specs.Word as W;
 pub fn sub(x: u64, y: u64) -> u64
     ensures { λ r. ⌜ r ≡ W.sub x y ⌝ }
 {
-    if y <= x { x - y } else { 0xFFFF_FFFF_FFFF_FFFF - y + 1 + x }
+    if y <= x {
+        x - y
+    } else {
+        0xFFFF_FFFF_FFFF_FFFF - y + 1 + x
+    }
 }
 
 // The product of two numbers of 32 bits.
@@ -48,7 +52,11 @@ pub fn mulhsu(x: u64, y: u64) -> u64
     ensures { λ r. ⌜ r ≡ W.mulhsu x y ⌝ }
 {
     let h = mulhu(x, y);
-    if x < 0x8000_0000_0000_0000 { h } else { sub(h, y) }
+    if x < 0x8000_0000_0000_0000 {
+        h
+    } else {
+        sub(h, y)
+    }
 }
 
 // Bits 127 to 64 of the signed product.
@@ -56,14 +64,19 @@ pub fn mulh(x: u64, y: u64) -> u64
     ensures { λ r. ⌜ r ≡ W.mulh x y ⌝ }
 {
     let h = mulhsu(x, y);
-    if y < 0x8000_0000_0000_0000 { h } else { sub(h, x) }
+    if y < 0x8000_0000_0000_0000 {
+        h
+    } else {
+        sub(h, x)
+    }
 }
 
 // Whether x is below y as signed numbers.
 pub fn slt(x: u64, y: u64) -> bool
     ensures { λ r. ⌜ r ≡ W.slt x y ⌝ }
 {
-    std::num::wrapping_add_u64(x, 0x8000_0000_0000_0000) < std::num::wrapping_add_u64(y, 0x8000_0000_0000_0000)
+    std::num::wrapping_add_u64(x, 0x8000_0000_0000_0000)
+        < std::num::wrapping_add_u64(y, 0x8000_0000_0000_0000)
 }
 
 // x shifted right by s places with copies of its sign bit.
@@ -90,7 +103,11 @@ pub fn sext(x: u64, k: u32) -> u64
 fn magnitude(x: u64) -> u64
     ensures { λ r. ⌜ r ≡ W.magnitude x ⌝ }
 {
-    if x < 0x8000_0000_0000_0000 { x } else { 0xFFFF_FFFF_FFFF_FFFF - x + 1 }
+    if x < 0x8000_0000_0000_0000 {
+        x
+    } else {
+        0xFFFF_FFFF_FFFF_FFFF - x + 1
+    }
 }
 
 fn signed(s: bool, m: u64) -> u64
@@ -108,7 +125,10 @@ pub fn sdiv(x: u64, y: u64) -> u64
         return 0;
     }
     let q = magnitude(x) / d;
-    signed((x < 0x8000_0000_0000_0000) != (y < 0x8000_0000_0000_0000), q)
+    signed(
+        (0x8000_0000_0000_0000 <= x) != (0x8000_0000_0000_0000 <= y),
+        q,
+    )
 }
 
 // The remainder of the signed division, with the dividend's sign; x for the divisor 0.

@@ -1,32 +1,23 @@
 use borrow.Author.Needs.{needs}
+use native.Mathlib.Omega.{arith}
+use Prim.Native.Nat.{_-_, _^_}
+use native.Mathlib.Nat.{le-trans, div-le-self}
+use borrow.Author.Tests.{le-leb, lt-leb}
+use Rattle.word.specs.Word.{asr}
 use Rattle.word.proofs.asr.Statement.{statement}
 use Rattle.word.proofs.asr.Tie as tie
-use Rattle.word.proofs.asr.Reads as reads
-use Rattle.word.proofs.asr.Lts as lts
 
--- src/lib.rt:75:9
-shr-result : tie.Need-shr-result
-shr-result c = search needs
-
--- src/lib.rt:77:35
-sub-result : tie.Need-sub-result
-sub-result c = search needs
-
--- src/lib.rt:77:34
-shr-result-2 : tie.Need-shr-result-2
-shr-result-2 c = search needs
-
--- src/lib.rt:77:9
 sub-result-2 : tie.Need-sub-result-2
-sub-result-2 c = ?
+sub-result-2 c = let a = c .before .args in le-trans (div-le-self (2 ^ 64 - 1 - a .x) (2 ^ a .s)) (omega arith)
 
--- src/lib.rt:70:1
 returns : tie.Need-returns
-returns c = ?
+unfolding asr
+returns c = rw (lt-leb _ _ (c .if1 .taken))
 
--- src/lib.rt:70:1
 returns-2 : tie.Need-returns-2
-returns-2 c = ?
+unfolding asr
+returns-2 c = rw (le-leb _ _ (c .if1 .left))
 
 pub asr-spec : {M : Type 1} → statement M
-asr-spec = tie.close (tie.spec shr-result sub-result shr-result-2 sub-result-2 returns returns-2)
+asr-spec =
+    tie.close (tie.spec (λ c. search needs) (λ c. search needs) (λ c. search needs) sub-result-2 returns returns-2)

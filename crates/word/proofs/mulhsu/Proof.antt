@@ -1,26 +1,27 @@
 use borrow.Author.Needs.{needs}
+use native.Mathlib.Omega.{arith}
+use mathlib.Core.Path.{_≡_, sym, ap, _∙_}
+use Prim.Native.Nat.{_*_, _%_, _^_}
+use native.Mathlib.Nat.{mul-comm, mod-eq-of-lt}
+use borrow.Author.Tests.{le-leb, lt-leb}
+use Rattle.word.specs.Word.{mulhsu, upper, mulhu}
+use Rattle.word.proofs.Products.{upper-negative}
 use Rattle.word.proofs.mulhsu.Statement.{statement}
 use Rattle.word.proofs.mulhsu.Tie as tie
-use Rattle.word.proofs.mulhsu.Reads as reads
-use Rattle.word.proofs.mulhsu.Lts as lts
-use Rattle.word.proofs.mulhu.Reads as mulhu-reads
-use Rattle.word.proofs.sub.Reads as sub-reads
 
--- src/lib.rt:50:9
-mulhu-requires : tie.Need-mulhu-requires
-mulhu-requires c κs = search needs
-
--- src/lib.rt:51:47
-sub-requires : tie.Need-sub-requires
-sub-requires c κs = search needs
-
--- src/lib.rt:47:1
 returns : tie.Need-returns
-returns c = ?
+unfolding mulhsu
+returns c =
+    rw (lt-leb _ _ (c .if1 .taken), ← c .before .mulhu .ensures) (sym (mod-eq-of-lt (search needs)))
 
--- src/lib.rt:47:1
 returns-2 : tie.Need-returns-2
-returns-2 c = ?
+unfolding mulhsu
+returns-2 c =
+    let a = c .before .before .before .args in
+    let u : upper (a .y * a .x) ≡ c .before .before .mulhu .result =
+    rw (mul-comm (a .y) (a .x), ← c .before .before .mulhu .ensures) (mod-eq-of-lt (search needs)) in
+    rw (le-leb _ _ (c .before .if1 .left), mul-comm _ (a .y), upper-negative (a .y) (a .x), u, mod-eq-of-lt {n = a .y} {m = 2 ^ 64} (search needs))
+    (c .sub .ensures)
 
 pub mulhsu-spec : {M : Type 1} → statement M
-mulhsu-spec = tie.close (tie.spec mulhu-requires sub-requires returns returns-2)
+mulhsu-spec = tie.close (tie.spec (λ c κs. search needs) (λ c κs. search needs) returns returns-2)

@@ -1,15 +1,15 @@
+use borrow.Author.Needs.{needs}
+use native.Mathlib.Omega.{arith}
+use Rattle.word.proofs.Products.{most}
+use mathlib.Core.Path.{refl}
 use Rattle.word.proofs.product32.Statement.{statement}
 use Rattle.word.proofs.product32.Tie as tie
-use Rattle.word.proofs.product32.Reads as reads
-use Rattle.word.proofs.product32.Lts as lts
 
--- src/lib.rt:18:5
 mul-result : tie.Need-mul-result
-mul-result c = ?
+mul-result c = let m = most (c .pre .0) (c .pre .1) in omega arith
 
--- src/lib.rt:14:1
 returns : tie.Need-returns
-returns c = ?
+returns c = (refl, most (c .pre .0) (c .pre .1))
 
 pub product32-spec : {M : Type 1} → statement M
 product32-spec = tie.close (tie.spec mul-result returns)

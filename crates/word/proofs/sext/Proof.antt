@@ -1,29 +1,15 @@
 use borrow.Author.Needs.{needs}
+use native.Mathlib.Omega.{arith}
+use mathlib.Core.Path.{_∙_}
+use Rattle.word.proofs.Extend.{by-shifts}
 use Rattle.word.proofs.sext.Statement.{statement}
 use Rattle.word.proofs.sext.Tie as tie
-use Rattle.word.proofs.sext.Reads as reads
-use Rattle.word.proofs.sext.Lts as lts
-use Rattle.word.proofs.asr.Reads as asr-reads
 
--- src/lib.rt:86:13
-sub-s : tie.Need-sub-s
-sub-s c = search needs
-
--- src/lib.rt:87:14
-cast-asr : tie.Need-cast-asr
-cast-asr c = search needs
-
--- src/lib.rt:87:9
-shl-asr : tie.Need-shl-asr
-shl-asr c = search needs
-
--- src/lib.rt:87:5
-asr-requires : tie.Need-asr-requires
-asr-requires c κs = search needs
-
--- src/lib.rt:82:1
 returns : tie.Need-returns
-returns c = ?
+returns c =
+    let a = c .before .args in
+    c .asr .ensures ∙ by-shifts (a .x) (a .k) _ (c .before .pre .0) (omega arith)
 
 pub sext-spec : {M : Type 1} → statement M
-sext-spec = tie.close (tie.spec sub-s cast-asr shl-asr asr-requires returns)
+sext-spec =
+    tie.close (tie.spec (λ c. search needs) (λ c. search needs) (λ c. search needs) (λ c κs. search needs) returns)

@@ -1,21 +1,17 @@
 use borrow.Author.Needs.{needs}
+use Prim.Native.Nat.{_-_, _^_}
+use native.Mathlib.Nat.{zero-add}
+use Rattle.word.specs.Word.{signed}
 use Rattle.word.proofs.signed.Statement.{statement}
 use Rattle.word.proofs.signed.Tie as tie
-use Rattle.word.proofs.signed.Reads as reads
-use Rattle.word.proofs.signed.Lts as lts
-use Rattle.word.proofs.sub.Reads as sub-reads
 
--- src/lib.rt:99:12
-sub-requires : tie.Need-sub-requires
-sub-requires c κs = search needs
-
--- src/lib.rt:96:1
 returns : tie.Need-returns
-returns c = ?
+unfolding signed
+returns c = rw (c .before .if1 .taken, ← zero-add (2 ^ 64 - c .before .before .args .m)) (c .sub .ensures)
 
--- src/lib.rt:96:1
 returns-2 : tie.Need-returns-2
-returns-2 c = ?
+unfolding signed
+returns-2 c = rw (c .if1 .left)
 
 pub signed-spec : {M : Type 1} → statement M
-signed-spec = tie.close (tie.spec sub-requires returns returns-2)
+signed-spec = tie.close (tie.spec (λ c κs. search needs) returns returns-2)
