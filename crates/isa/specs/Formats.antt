@@ -3,6 +3,7 @@
 -- down, where the manual's figure takes its bits from. Definitions only.
 use Prim.Native.Nat.{ℕ, suc, _+_, _-_, _*_, _/_, _%_, _^_}
 use Rattle.word.specs.Word.{sext}
+use Rattle.isa.specs.declared.decode.Decoded32.{Decoded32}
 
 -- inst[hi:lo]
 abbrev pub inst : ℕ → ℕ → ℕ → ℕ
@@ -10,8 +11,9 @@ inst hi lo w = w / 2 ^ lo % 2 ^ (suc hi - lo)
 
 -- ---- 32 bits
 
+-- inst[6:0]
 abbrev pub opcode : ℕ → ℕ
-opcode w = inst 6 0 w
+opcode w = w % 2 ^ 7
 
 abbrev pub rd : ℕ → ℕ
 rd w = inst 11 7 w
@@ -35,6 +37,19 @@ funct5 w = inst 31 27 w
 -- the I-type's immediate field, not extended
 abbrev pub imm12 : ℕ → ℕ
 imm12 w = inst 31 20 w
+
+abbrev pub decoded : ℕ → Decoded32
+decoded w =
+    record {
+      opcode = opcode w;
+      rd = rd w;
+      funct3 = funct3 w;
+      rs1 = rs1 w;
+      rs2 = rs2 w;
+      funct7 = funct7 w;
+      funct5 = funct5 w;
+      imm12 = imm12 w;
+    }
 
 abbrev pub immI : ℕ → ℕ
 immI w = sext 12 (inst 31 20 w)

@@ -1,2 +1,2 @@
 pub mod Formats
-pub mod Class
+pub mod Classes
