@@ -44,9 +44,7 @@ fn item(text: &str, head: &str, lines: usize) -> String {
     let from = &text[text.find(head).unwrap()..];
     let indent = head.len() - head.trim_start().len();
     let close = format!("\n{}}}\n", " ".repeat(indent));
-    let Some(end) = from.find(&close) else {
-        stop(format!("{head}: no end"))
-    };
+    let Some(end) = from.find(&close) else { stop(format!("{head}: no end")) };
     let taken = &from[..end + close.len()];
     expect(taken.lines().count(), lines, &format!("lines of {head}"));
     taken.to_string()
@@ -91,9 +89,7 @@ fn without(text: &str, head: &str, times: usize, lines: usize) -> String {
 fn between<'a>(text: &'a str, first: &str, last: &str, lines: usize) -> &'a str {
     expect(text.matches(first).count(), 1, first);
     let from = &text[text.find(first).unwrap() + first.len()..];
-    let Some(end) = from.find(last) else {
-        stop(format!("{first}: no {last} behind it"))
-    };
+    let Some(end) = from.find(last) else { stop(format!("{first}: no {last} behind it")) };
     let taken = from[..end].trim();
     expect(taken.lines().count(), lines, &format!("lines behind {first}"));
     taken
@@ -148,9 +144,11 @@ fn methods(jit: &str) -> (String, String) {
     let block = without(&block, "if !self.native_jit.enabled {", 1, 3);
     let block = without(&block, "if self.native_jit_trace {", 7, 24);
     let block = without(&block, "if emitted == 0 && self.native_jit_trace {", 2, 12);
-    let block = replace(&block, "        let mut instr_log: Vec<(u64, u32, u8)> = Vec::new();\n", "", 1);
+    let block =
+        replace(&block, "        let mut instr_log: Vec<(u64, u32, u8)> = Vec::new();\n", "", 1);
     let block = replace(&block, "        let satp = self.satp_cached;\n", "", 1);
-    let block = replace(&block, "            self.native_jit.mark_failed(satp, start_pc);\n", "", 1);
+    let block =
+        replace(&block, "            self.native_jit.mark_failed(satp, start_pc);\n", "", 1);
 
     let all = [instr16.as_str(), &instr32, &helper16, &helper32, &block].join("\n");
     (all, instr16)
@@ -195,7 +193,8 @@ fn main() {
     let bus = read(&folder, "src--src--bus.rs.txt", 374);
     let trap = read(&folder, "src--src--trap.rs.txt", 18);
 
-    let access = item(&bus, "#[derive(Debug, Clone, Copy, PartialEq, Eq)]\npub enum AccessType {", 7);
+    let access =
+        item(&bus, "#[derive(Debug, Clone, Copy, PartialEq, Eq)]\npub enum AccessType {", 7);
     let trap = replace(&trap, "crate::bus::AccessType", "AccessType", 1);
     let decoded = item(&hart, "#[derive(Clone, Copy, Default)]\nstruct Decoded32 {", 12);
     let flow = aarch64(&hart, "#[derive(Clone, Copy, PartialEq, Eq)]\nenum EmitFlow {", 5);

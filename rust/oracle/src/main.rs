@@ -6,7 +6,8 @@ use oracle::{program, record, rows, rules, LONGEST};
 use std::io::{Read, Write};
 use std::path::Path;
 
-const USE: &str = "use: oracle translate < INPUT | rows | record DIR | check DIR | fuzz COUNT [SEED]";
+const USE: &str =
+    "use: oracle translate < INPUT | rows | record DIR | check DIR | fuzz COUNT [SEED]";
 
 fn fail(lines: &[String]) -> ! {
     for line in lines.iter().take(20) {
@@ -51,7 +52,8 @@ fn check_files(folder: &Path) {
             Ok(found) if found != bytes => {
                 let at = found.iter().zip(&bytes).take_while(|(a, b)| a == b).count();
                 let lengths = (found.len(), bytes.len());
-                wrong.push(format!("{name}: byte {at} is the first to differ; lengths {lengths:?}"));
+                wrong
+                    .push(format!("{name}: byte {at} is the first to differ; lengths {lengths:?}"));
             }
             Ok(_) => println!("oracle: {name} as the Rust has it, {} bytes", bytes.len()),
         }

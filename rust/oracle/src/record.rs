@@ -210,27 +210,15 @@ const HELPERS: [[u64; 3]; 5] = [
     [0x0001_0000_0000_0000, 0x0000_ffff_0000_0000, 0x1234_0000_5678_0000],
     [0x0000_0001_0000_0001, 0xffff_0000_0000_ffff, 0x7f80_1234_5678],
 ];
-const BAD_SLOTS: [u64; 12] = [
-    1,
-    4,
-    7,
-    32_511,
-    32_513,
-    32_516,
-    32_520,
-    65_536,
-    65_544,
-    1 << 32,
-    1 << 63,
-    u64::MAX,
-];
+const BAD_SLOTS: [u64; 12] =
+    [1, 4, 7, 32_511, 32_513, 32_516, 32_520, 65_536, 65_544, 1 << 32, 1 << 63, u64::MAX];
 
 fn draw_helpers(random: &mut Random) -> [u64; 3] {
     if random.below(2) == 0 {
         return random.pick(&HELPERS);
     }
     [(); 3].map(|_| {
-        let kept = [0, 16, 32, 48].map(|shift| (random.next() & 1) * 0xffff << shift);
+        let kept = [0, 16, 32, 48].map(|shift| ((random.next() & 1) * 0xffff) << shift);
         random.next() & kept.iter().sum::<u64>()
     })
 }

@@ -71,7 +71,8 @@ fn differs(row: &Row) -> Option<String> {
         refusal => Err(refusal),
     };
     let rest = output[length..].iter().all(|&byte| byte == FILL);
-    let zeros = answer.refusal == 0 || answer == Answer { refusal: answer.refusal, ..Answer::default() };
+    let zeros =
+        answer.refusal == 0 || answer == Answer { refusal: answer.refusal, ..Answer::default() };
     if found == row.found && rest && zeros && answer.helper == 0 {
         return None;
     }
@@ -92,7 +93,8 @@ fn longest() -> Option<String> {
 
 /// Row 5 as document 01's program prints it.
 fn printed() -> Option<String> {
-    let input = [&0x1000u64.to_le_bytes()[..], &2u32.to_le_bytes(), &[0], &[1, 0, 0x41, 0x9C]].concat();
+    let input =
+        [&0x1000u64.to_le_bytes()[..], &2u32.to_le_bytes(), &[0], &[1, 0, 0x41, 0x9C]].concat();
     let text = program::run(&input);
     let expected = "f9402009\nf940200a\nd2820040\nd2800021\nd65f03c0\n1\n";
     let refused = program::run(&[&input[..13], &[0x41, 0x9C]].concat());
