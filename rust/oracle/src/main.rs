@@ -1,0 +1,112 @@
+//! The oracle's commands; the README says what each does.
+
+use oracle::random::Random;
+use oracle::rules::Case;
+use oracle::{program, record, rows, rules, LONGEST};
+use std::io::{Read, Write};
+use std::path::Path;
+
+const USE: &str =
+    "use: oracle translate < INPUT | rows | record DIR | check DIR | fuzz COUNT [SEED]";
+
+fn fail(lines: &[String]) -> ! {
+    for line in lines.iter().take(20) {
+        eprintln!("oracle: {line}");
+    }
+    eprintln!("oracle: {} differ", lines.len());
+    std::process::exit(1)
+}
+
+fn translate() {
+    let mut input = Vec::new();
+    std::io::stdin().read_to_end(&mut input).expect("standard input");
+    std::io::stdout().write_all(program::run(&input).as_bytes()).expect("standard output");
+}
+
+fn check_rows() {
+    let (asked, wrong) = rows::check();
+    if !wrong.is_empty() {
+        fail(&wrong);
+    }
+    println!("oracle: {asked} rows of document 01 as the Rust has them");
+    let (asked, wrong) = rules::check();
+    if !wrong.is_empty() {
+        fail(&wrong);
+    }
+    println!("oracle: {asked} instructions and places by document 01's rules as the Rust has them");
+}
+
+fn write_files(folder: &Path) {
+    std::fs::create_dir_all(folder).expect("the folder");
+    for (name, bytes) in record::files() {
+        std::fs::write(folder.join(name), &bytes).expect(name);
+        println!("oracle: {name}, {} bytes", bytes.len());
+    }
+}
+
+fn check_files(folder: &Path) {
+    let mut wrong = Vec::new();
+    for (name, bytes) in record::files() {
+        match std::fs::read(folder.join(name)) {
+            Err(error) => wrong.push(format!("{name}: {error}")),
+            Ok(found) if found != bytes => {
+                let at = found.iter().zip(&bytes).take_while(|(a, b)| a == b).count();
+                let lengths = (found.len(), bytes.len());
+                wrong
+                    .push(format!("{name}: byte {at} is the first to differ; lengths {lengths:?}"));
+            }
+            Ok(_) => println!("oracle: {name} as the Rust has it, {} bytes", bytes.len()),
+        }
+    }
+    if !wrong.is_empty() {
+        fail(&wrong);
+    }
+}
+
+/// Random blocks by document 01's rules; a panic of the source ends the run.
+fn fuzz(count: usize, seed: u64) {
+    let mut random = Random(seed);
+    let recorded = record::cases();
+    let mut wrong = Vec::new();
+    let (mut instructions, mut longest) = (0, 0);
+    for _ in 0..count {
+        let mut guest = Vec::new();
+        for _ in 0..1 + random.below(6) {
+            guest.extend(&recorded[random.below(recorded.len())].guest);
+        }
+        if random.below(4) == 0 {
+            let (at, bit) = (random.below(guest.len() + 1), random.below(8));
+            guest.iter_mut().skip(at).take(1).for_each(|byte| *byte ^= 1 << bit);
+        }
+        let case: &Case = &recorded[random.below(recorded.len())];
+        let room = random.pick(&[case.room, LONGEST, LONGEST]);
+        match rules::compare(&Case { guest, room, ..case.clone() }) {
+            Ok(answer) => {
+                instructions += answer.count as u64;
+                longest = longest.max(answer.length);
+            }
+            Err(text) => wrong.push(text),
+        }
+    }
+    if !wrong.is_empty() {
+        fail(&wrong);
+    }
+    println!("oracle: {count} blocks, {instructions} instructions, longest block {longest} bytes");
+}
+
+fn main() {
+    let arguments: Vec<String> = std::env::args().skip(1).collect();
+    let arguments: Vec<&str> = arguments.iter().map(String::as_str).collect();
+    match arguments[..] {
+        ["translate"] => translate(),
+        ["rows"] => check_rows(),
+        ["record", folder] => write_files(Path::new(folder)),
+        ["check", folder] => check_files(Path::new(folder)),
+        ["fuzz", count] => fuzz(count.parse().expect(USE), 1),
+        ["fuzz", count, seed] => fuzz(count.parse().expect(USE), seed.parse().expect(USE)),
+        _ => {
+            eprintln!("{USE}");
+            std::process::exit(2)
+        }
+    }
+}

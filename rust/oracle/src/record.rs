@@ -1,0 +1,529 @@
+//! The recorded answers: cases drawn from a fixed seed, each with what the Rust says of it.
+//! The README describes the files byte by byte.
+
+use crate::random::Random;
+use crate::rules::{ask, class16, class32, Case, Class};
+use crate::{compressed_immediates, decode, place, LONGEST};
+
+pub const SEED: u64 = 0x2B13_4309_95A6_4001;
+pub const MAGIC: &[u8; 8] = b"A64BLOCK";
+
+/// An instruction form: the fixed bits, the mask of the fixed bits.
+type Form = (u32, u32);
+
+/// Rule 2's 32-bit forms.
+fn inline32() -> Vec<Form> {
+    let mut forms = vec![(0x37, 0x7f), (0x17, 0x7f), (0x6f, 0x7f), (0x67, 0x707f), (0x67, 0x7f)];
+    let funct3 = |opcode: u32, values: &[u32]| -> Vec<Form> {
+        values.iter().map(|f| (opcode | f << 12, 0x707f)).collect()
+    };
+    let funct7 = |opcode: u32, funct7: u32, values: &[u32]| -> Vec<Form> {
+        values.iter().map(|f| (opcode | f << 12 | funct7 << 25, 0xfe00_707f)).collect()
+    };
+    forms.extend(funct3(0x63, &[0, 1, 4, 5, 6, 7]));
+    forms.extend(funct3(0x13, &[0, 2, 3, 4, 6, 7]));
+    forms.extend([0x1013, 0x5013, 0x4000_5013].map(|value| (value, 0xfc00_707f)));
+    forms.extend(funct3(0x1b, &[0]));
+    forms.extend(funct7(0x1b, 0, &[1, 5]));
+    forms.extend(funct7(0x1b, 32, &[5]));
+    forms.extend(funct7(0x33, 0, &[0, 1, 2, 3, 4, 5, 6, 7]));
+    forms.extend(funct7(0x33, 1, &[0, 1, 2, 3, 4, 5, 6, 7]));
+    forms.extend(funct7(0x33, 32, &[0, 5]));
+    forms.extend(funct7(0x3b, 0, &[0, 1, 5]));
+    forms.extend(funct7(0x3b, 1, &[0, 4, 5, 6, 7]));
+    forms.extend(funct7(0x3b, 32, &[0, 5]));
+    forms.extend(funct3(0x0f, &[0, 1]));
+    forms
+}
+
+/// Rule 2's 16-bit forms: quadrant 0, quadrant 1, quadrant 2.
+const INLINE16: [Form; 25] = [
+    (0x0000, 0xe003),
+    (0x0001, 0xef83),
+    (0x0001, 0xe003),
+    (0x2001, 0xe003),
+    (0x4001, 0xe003),
+    (0x6101, 0xef83),
+    (0x6001, 0xe003),
+    (0x8001, 0xec03),
+    (0x8401, 0xec03),
+    (0x8801, 0xec03),
+    (0x8c01, 0xfc63),
+    (0x8c21, 0xfc63),
+    (0x8c41, 0xfc63),
+    (0x8c61, 0xfc63),
+    (0x9c01, 0xfc63),
+    (0x9c21, 0xfc63),
+    (0xa001, 0xe003),
+    (0xc001, 0xe003),
+    (0xe001, 0xe003),
+    (0x0002, 0xe003),
+    (0x8002, 0xf07f),
+    (0x8002, 0xf003),
+    (0x9002, 0xffff),
+    (0x9002, 0xf07f),
+    (0x9002, 0xf003),
+];
+
+/// Rule 4's forms.
+fn helper() -> Vec<Form> {
+    let mut forms = Vec::new();
+    for quadrant in [0, 2] {
+        forms.extend([2, 3, 6, 7].map(|funct3| (quadrant | funct3 << 13, 0xe003)));
+    }
+    forms.extend([0, 1, 2, 3, 4, 5, 6].map(|funct3| (0x03 | funct3 << 12, 0x707f)));
+    forms.extend([0, 1, 2, 3].map(|funct3| (0x23 | funct3 << 12, 0x707f)));
+    forms.extend([(0x07, 0x7f), (0x3007, 0x707f), (0x27, 0x7f), (0x3027, 0x707f)]);
+    forms.extend([(0x2f, 0x7f), (0x202f, 0x707f), (0x302f, 0x707f)]);
+    forms
+}
+
+/// Rule 7's forms: uncovered, with scratch words.
+const LEFTOVER: [Form; 26] = [
+    (0x0400_0033, 0xfe00_007f),
+    (0xfe00_0033, 0xfe00_007f),
+    (0x4000_1033, 0xfe00_707f),
+    (0x4000_2033, 0xfe00_707f),
+    (0x4000_7033, 0xfe00_707f),
+    (0x0600_0033, 0xfe00_007f),
+    (0x0000_203b, 0xfe00_707f),
+    (0x0000_403b, 0xfe00_707f),
+    (0x0000_703b, 0xfe00_707f),
+    (0x0200_103b, 0xfe00_707f),
+    (0x0200_303b, 0xfe00_707f),
+    (0x4000_103b, 0xfe00_707f),
+    (0x0800_003b, 0xfe00_007f),
+    (0x0400_1013, 0xfc00_707f),
+    (0x4000_1013, 0xfc00_707f),
+    (0x0400_5013, 0xfc00_707f),
+    (0x8000_5013, 0xfc00_707f),
+    (0xc000_5013, 0xfc00_707f),
+    (0x0000_201b, 0x0000_707f),
+    (0x0000_601b, 0x0000_707f),
+    (0x0200_101b, 0xfe00_707f),
+    (0x4000_101b, 0xfe00_707f),
+    (0x0200_501b, 0xfe00_707f),
+    (0x4200_501b, 0xfe00_707f),
+    (0x9c41, 0xfc63),
+    (0x9c61, 0xfc63),
+];
+
+/// Uncovered, with no scratch words.
+const UNCOVERED: [Form; 40] = [
+    (0x0000_0073, 0xffff_ffff),
+    (0x0010_0073, 0xffff_ffff),
+    (0x73, 0x7f),
+    (0x2063, 0x707f),
+    (0x3063, 0x707f),
+    (0x7003, 0x707f),
+    (0x4023, 0x707f),
+    (0x7023, 0x707f),
+    (0x200f, 0x707f),
+    (0x700f, 0x707f),
+    (0x53, 0x7f),
+    (0x43, 0x7f),
+    (0x47, 0x7f),
+    (0x4b, 0x7f),
+    (0x4f, 0x7f),
+    (0x0b, 0x7f),
+    (0x2b, 0x7f),
+    (0x57, 0x7f),
+    (0x5b, 0x7f),
+    (0x6b, 0x7f),
+    (0x77, 0x7f),
+    (0x7b, 0x7f),
+    (0x1f, 0x7f),
+    (0x3f, 0x7f),
+    (0x5f, 0x7f),
+    (0x7f, 0x7f),
+    (0x0000, 0xffff),
+    (0x0000, 0xffe3),
+    (0x2000, 0xe003),
+    (0x8000, 0xe003),
+    (0xa000, 0xe003),
+    (0x2001, 0xef83),
+    (0x6101, 0xffff),
+    (0x6001, 0xef83),
+    (0x6001, 0xf07f),
+    (0x2002, 0xe003),
+    (0xa002, 0xe003),
+    (0x0002, 0xef83),
+    (0x8002, 0xff83),
+    (0x9002, 0xff83),
+];
+
+/// The bytes of an instruction of the form, its free fields at the edges or anywhere.
+fn draw(random: &mut Random, form: Form) -> Vec<u8> {
+    let (value, mask) = form;
+    let mut free = random.pattern();
+    if random.below(5) == 0 {
+        free &= !0xf80;
+    }
+    if random.below(5) == 0 {
+        free |= random.pick(&[1, 2, 31]) << 7;
+    }
+    let instr = value | free & !mask;
+    let size = if value & 3 == 3 { 4 } else { 2 };
+    instr.to_le_bytes()[..size].to_vec()
+}
+
+/// An instruction after which a block goes on.
+fn draw_next(random: &mut Random, forms: &[Form]) -> Vec<u8> {
+    loop {
+        let form = random.pick(forms);
+        let bytes = draw(random, form);
+        let class = match bytes.len() {
+            2 => class16(u16::from_le_bytes([bytes[0], bytes[1]]), false),
+            _ => class32(u32::from_le_bytes([bytes[0], bytes[1], bytes[2], bytes[3]])),
+        };
+        if class == Class::Next {
+            return bytes;
+        }
+    }
+}
+
+const PCS: [u64; 18] = [
+    0,
+    2,
+    4,
+    0x1000,
+    0x1002,
+    0x7ffc,
+    0xfffe,
+    0x7fff_fffe,
+    0x8000_0000,
+    0xffff_fffc,
+    0x1_0000_0000,
+    0x0001_0001_0001_0000,
+    0x7fff_ffff_ffff_fffe,
+    0x8000_0000_0000_0000,
+    0xffff_ffff_ffff_f000,
+    0xffff_ffff_ffff_fff8,
+    0xffff_ffff_ffff_fffc,
+    0xffff_ffff_ffff_fffe,
+];
+const LIMITS: [u32; 7] = [1, 2, 3, 63, 64, 65, u32::MAX];
+const HELPERS: [[u64; 3]; 5] = [
+    [0x10000, 0x20000, 0x30000],
+    [0, 0, 0],
+    [u64::MAX, u64::MAX - 0xffff, 0xffff_ffff],
+    [0x0001_0000_0000_0000, 0x0000_ffff_0000_0000, 0x1234_0000_5678_0000],
+    [0x0000_0001_0000_0001, 0xffff_0000_0000_ffff, 0x7f80_1234_5678],
+];
+const BAD_SLOTS: [u64; 12] =
+    [1, 4, 7, 32_511, 32_513, 32_516, 32_520, 65_536, 65_544, 1 << 32, 1 << 63, u64::MAX];
+
+fn draw_helpers(random: &mut Random) -> [u64; 3] {
+    if random.below(2) == 0 {
+        return random.pick(&HELPERS);
+    }
+    [(); 3].map(|_| {
+        let kept = [0, 16, 32, 48].map(|shift| ((random.next() & 1) * 0xffff) << shift);
+        random.next() & kept.iter().sum::<u64>()
+    })
+}
+
+/// A question around `guest`, with room enough.
+fn draw_case(random: &mut Random, guest: Vec<u8>) -> Case {
+    let pc = if random.below(4) == 0 { random.next() & !1 } else { random.pick(&PCS) };
+    let limit = if random.below(8) == 0 { random.next() as u32 | 1 } else { random.pick(&LIMITS) };
+    let slot_offset = match random.below(4) {
+        0 => 8 * random.below(4_065) as u64,
+        _ => random.pick(&[0, 8, 32_512]),
+    };
+    let ignore_ebreak = random.below(2) == 0;
+    let helpers = draw_helpers(random);
+    Case { guest, pc, limit, ignore_ebreak, slot_offset, helpers, room: LONGEST }
+}
+
+fn block_length(case: &Case) -> usize {
+    let mut output = [0; LONGEST];
+    ask(case, &mut output).length as usize
+}
+
+/// An accepted case's room: what the block needs, or more.
+fn enough(random: &mut Random, mut case: Case) -> Case {
+    let length = block_length(&case);
+    case.room = match random.below(3) {
+        0 => length,
+        1 => length + 1 + random.below(16),
+        _ => LONGEST,
+    };
+    case
+}
+
+/// A form first in its block, or behind one to three others.
+fn draw_form(random: &mut Random, form: Form, before: usize) -> Case {
+    let mut guest = Vec::new();
+    for _ in 0..before {
+        guest.extend(draw_next(random, &INLINE16));
+    }
+    guest.extend(draw(random, form));
+    if random.below(3) == 0 {
+        guest.extend(draw_next(random, &INLINE16));
+    }
+    let mut case = draw_case(random, guest);
+    if random.below(4) != 0 {
+        case.limit = case.limit.max(before as u32 + 1);
+    }
+    enough(random, case)
+}
+
+fn by_form(random: &mut Random, cases: &mut Vec<Case>) {
+    for forms in [inline32(), INLINE16.to_vec(), helper(), LEFTOVER.to_vec(), UNCOVERED.to_vec()] {
+        for form in forms {
+            for _ in 0..13 {
+                cases.push(draw_form(random, form, 0));
+            }
+            for before in [1, 1, 1, 1, 2, 2, 3] {
+                cases.push(draw_form(random, form, before));
+            }
+        }
+    }
+}
+
+/// Refusals 1, 2, 3 and 6, each alone and with those that number higher.
+fn refusals(random: &mut Random, cases: &mut Vec<Case>) {
+    let guests: [&[u8]; 5] = [&[1, 0], &[0x7d, 0x55, 0x82, 0x80], &[], &[3], &[0x41, 0x9c]];
+    for guest in guests {
+        for slot_offset in BAD_SLOTS {
+            let case = draw_case(random, guest.to_vec());
+            let limit = random.pick(&[0, 1]);
+            cases.push(Case { slot_offset, limit, pc: case.pc ^ random.next() & 1, ..case });
+        }
+        for _ in 0..8 {
+            let case = draw_case(random, guest.to_vec());
+            cases.push(Case { limit: 0, pc: case.pc ^ random.next() & 1, ..case.clone() });
+            cases.push(Case { pc: case.pc | 1, room: random.pick(&[0, LONGEST]), ..case.clone() });
+            cases.push(Case { room: 0, ..case });
+        }
+    }
+    for form in [inline32(), INLINE16.to_vec(), helper()].concat() {
+        let case = draw_form(random, form, 1);
+        let length = block_length(&case);
+        for room in [length.max(1) - 1, random.below(length.max(1))] {
+            cases.push(Case { room, ..case.clone() });
+        }
+    }
+}
+
+/// The guest cut to each of its lengths.
+fn cuts(random: &mut Random, cases: &mut Vec<Case>) {
+    let forms = [inline32(), helper()].concat();
+    for _ in 0..24 {
+        let form = random.pick(&forms);
+        let short = draw_next(random, &INLINE16);
+        let guest = [draw(random, form), short, draw_next(random, &forms)].concat();
+        let case = draw_case(random, guest);
+        for length in 0..=case.guest.len() {
+            let guest = case.guest[..length].to_vec();
+            let case = Case { guest, limit: case.limit.max(2), ..case.clone() };
+            cases.push(enough(random, case));
+        }
+    }
+}
+
+/// Longer blocks of every inline form, around the limits.
+fn sequences(random: &mut Random, cases: &mut Vec<Case>) {
+    let forms = [inline32(), INLINE16.to_vec()].concat();
+    let all = [&forms[..], &helper(), &LEFTOVER, &UNCOVERED].concat();
+    for index in 0..170 {
+        let many = if index < 12 { 60 + random.below(7) } else { 2 + random.below(10) };
+        let mut guest = Vec::new();
+        for _ in 0..many {
+            guest.extend(draw_next(random, if many > 20 { &INLINE16 } else { &forms }));
+        }
+        let form = random.pick(&all);
+        guest.extend(draw(random, form));
+        let case = draw_case(random, guest);
+        cases.push(enough(random, case));
+    }
+    for limit in [0, 1, 2, 63, 64, 65, u32::MAX] {
+        for many in [0, 1, 2, 62, 63, 64, 65, 66] {
+            for last in [&[0x02, 0x90][..], &[0x82, 0x80], &[0x41, 0x9c], &[0x03, 0x30, 0, 0]] {
+                let guest = [[0x01, 0x00].repeat(many), last.to_vec()].concat();
+                let case = Case { limit, ..draw_case(random, guest) };
+                cases.push(enough(random, case));
+            }
+        }
+    }
+}
+
+/// Bytes from anywhere.
+fn bytes(random: &mut Random, cases: &mut Vec<Case>) {
+    for _ in 0..500 {
+        let length = random.below(13);
+        let guest = random.bytes(length);
+        let mut case = draw_case(random, guest);
+        case.limit = random.pick(&[0, 1, 2, 64, 64, 64]);
+        case.pc ^= (random.below(12) == 0) as u64;
+        case.room = random.pick(&[0, 11, 12, 16, 40, LONGEST, LONGEST]);
+        cases.push(case);
+    }
+}
+
+/// 64 DIV, 64 REM, and 63 DIV with a helper, a jump and leftover words behind them.
+fn largest(random: &mut Random, cases: &mut Vec<Case>) {
+    let div = [0xb3, 0x42, 0x73, 0x02];
+    let case = Case {
+        guest: div.repeat(64),
+        pc: 0x0001_0001_0001_0000,
+        limit: 64,
+        ignore_ebreak: false,
+        slot_offset: 32_512,
+        helpers: HELPERS[4],
+        room: LONGEST,
+    };
+    cases.push(case.clone());
+    cases.push(Case { room: LONGEST - 1, ..case.clone() });
+    cases.push(Case { limit: u32::MAX, room: LONGEST + 4, ..case.clone() });
+    cases.push(Case { guest: [0xb3, 0x62, 0x73, 0x02].repeat(64), ..case.clone() });
+    for last in [[0x23, 0x3f, 0x53, 0xfe], [0xe7, 0x82, 0x02, 0x80], [0xb3, 0x22, 0x73, 0x40]] {
+        let guest = [div.repeat(63), last.to_vec()].concat();
+        cases.push(enough(random, Case { guest, ..case.clone() }));
+    }
+}
+
+/// The cases of `blocks.bin`.
+pub fn cases() -> Vec<Case> {
+    let mut random = Random(SEED);
+    let mut cases = Vec::new();
+    by_form(&mut random, &mut cases);
+    refusals(&mut random, &mut cases);
+    cuts(&mut random, &mut cases);
+    sequences(&mut random, &mut cases);
+    bytes(&mut random, &mut cases);
+    largest(&mut random, &mut cases);
+    cases
+}
+
+fn put_case(file: &mut Vec<u8>, case: &Case) {
+    file.extend((case.guest.len() as u16).to_le_bytes());
+    file.extend(&case.guest);
+    file.extend(case.pc.to_le_bytes());
+    file.extend(case.limit.to_le_bytes());
+    file.push(case.ignore_ebreak as u8);
+    file.extend(case.slot_offset.to_le_bytes());
+    for helper in case.helpers {
+        file.extend(helper.to_le_bytes());
+    }
+    file.extend((case.room as u32).to_le_bytes());
+    let mut output = vec![0; case.room];
+    let answer = ask(case, &mut output);
+    let length = answer.length as usize;
+    file.extend([answer.refusal as u8, answer.helper as u8, answer.count as u8]);
+    file.extend((length as u16 / 4).to_le_bytes());
+    file.extend(&output[..length]);
+}
+
+fn blocks() -> Vec<u8> {
+    let cases = cases();
+    let mut file = MAGIC.to_vec();
+    file.extend((cases.len() as u32).to_le_bytes());
+    file.extend(SEED.to_le_bytes());
+    for case in &cases {
+        put_case(&mut file, case);
+    }
+    file
+}
+
+fn put_decoded(file: &mut Vec<u8>, instr: u32) {
+    let d = decode(instr);
+    file.extend(instr.to_le_bytes());
+    file.extend([d.opcode, d.rd, d.funct3, d.rs1, d.rs2, d.funct7, d.funct5, 0]);
+    file.extend(d.imm12.to_le_bytes());
+    for immediate in [d.imm_i, d.imm_s, d.imm_b, d.imm_u, d.imm_j] {
+        file.extend(immediate.to_le_bytes());
+    }
+}
+
+/// Every opcode with edge fields, every single bit, then any word.
+fn decoded() -> Vec<u8> {
+    let mut random = Random(SEED + 1);
+    let mut file = Vec::new();
+    for opcode in 0..128 {
+        for _ in 0..14 {
+            put_decoded(&mut file, random.pattern() & !0x7f | opcode);
+        }
+    }
+    for bit in 0..32 {
+        put_decoded(&mut file, 1 << bit);
+        put_decoded(&mut file, !(1 << bit));
+    }
+    for _ in 0..2_144 {
+        put_decoded(&mut file, random.next() as u32);
+    }
+    file
+}
+
+fn put_compressed(file: &mut Vec<u8>, instr: u16) {
+    file.extend(instr.to_le_bytes());
+    for immediate in compressed_immediates(instr) {
+        file.extend(immediate.to_le_bytes());
+    }
+}
+
+/// Every quadrant and funct3 with edge fields, every single bit, then any halfword.
+fn compressed() -> Vec<u8> {
+    let mut random = Random(SEED + 2);
+    let mut file = Vec::new();
+    for kind in 0..32u16 {
+        for _ in 0..32 {
+            let free = random.pattern() as u16;
+            put_compressed(&mut file, (kind >> 2) << 13 | kind & 3 | free & 0x1ffc);
+        }
+    }
+    for bit in 0..16 {
+        put_compressed(&mut file, 1 << bit);
+        put_compressed(&mut file, !(1 << bit));
+    }
+    for _ in 0..944 {
+        put_compressed(&mut file, random.next() as u16);
+    }
+    file
+}
+
+/// Short stores around every boundary.
+fn placed() -> Vec<u8> {
+    let mut random = Random(SEED + 3);
+    let mut file = Vec::new();
+    for index in 0..800u32 {
+        let size = random.below(25);
+        let used = match index % 16 {
+            0 => random.pick(&[1 << 32, 1 << 63, u64::MAX - 3, u64::MAX - 2, u64::MAX]),
+            1 => size as u64 + 1 + random.below(4) as u64,
+            2 => size as u64,
+            _ => random.below(size + 1) as u64,
+        };
+        let start = (used as u128 + 3) / 4 * 4;
+        let left = (size as u128).saturating_sub(start) as usize;
+        let length = match index % 4 {
+            0 => left,
+            1 => left + 1,
+            _ => random.below(left + 2),
+        };
+        let mut store = random.bytes(size);
+        let code = random.bytes(length);
+        file.push(size as u8);
+        file.extend(&store);
+        file.extend(used.to_le_bytes());
+        file.push(length as u8);
+        file.extend(&code);
+        let answer = place(&mut store, used, &code);
+        file.push(answer.refusal as u8);
+        file.extend(answer.start.to_le_bytes());
+        file.extend(answer.used.to_le_bytes());
+        file.extend(&store);
+    }
+    file
+}
+
+/// The recorded files by name.
+pub fn files() -> [(&'static str, Vec<u8>); 4] {
+    [
+        ("blocks.bin", blocks()),
+        ("decode.bin", decoded()),
+        ("compressed.bin", compressed()),
+        ("place.bin", placed()),
+    ]
+}
