@@ -2,9 +2,8 @@
 use mathlib.Core.Bool.{Bool, true, false, cond, xor}
 use mathlib.Core.Path.{_≡_, refl, sym, ap, _∙_}
 use Prim.Native.Nat.{ℕ, _+_, _-_, _*_, _/_, _%_, _^_, _≤_, _<_}
-use native.Mathlib.Nat.{add-assoc, add-comm, mul-assoc, mul-comm, mul-left-comm, mul-add, add-mul, one-mul, mul-le-mul-right, div-add-mod, mod-lt, mod-eq-of-lt, mod-add-mod, mod-eq-sub-mod, add-mod-right, add-mul-div-left, add-mul-mod-self-left, lt-of-le-of-lt, div-lt-iff-lt-mul, mul-lt-mul-of-pos-right, mul-le-mul-left, le-of-lt, zero-mul}
+use native.Mathlib.Nat.{add-assoc, add-comm, mul-assoc, mul-comm, mul-left-comm, mul-add, add-mul, one-mul, mul-le-mul-right, div-add-mod, mod-lt, mod-eq-of-lt, mod-add-mod, mod-eq-sub-mod, add-mod-right, add-mul-div-left, add-mul-mod-self-left, lt-of-le-of-lt, div-lt-iff-lt-mul, mul-lt-mul-of-pos-left, le-of-lt}
 use native.Mathlib.Omega.{arith}
-use mathlib.Core.Logic.{_↔_}
 use lib.Pow.{pow-pos, pow-add, pow-mono}
 use borrow.Author.Tests.{le-leb, lt-leb}
 use Rattle.word.specs.Word.{sub, sign, sext, asr, complement, magnitude, signed, sdiv, srem, sext128, upper, mulhu, mulh, mulhsu}
@@ -34,7 +33,7 @@ module _ (x j : ℕ) (e : j + 1 ≤ 64) where
       let w : 2 ^ (j + 1) ≤ 2 ^ 64 = pow-mono e in
       let l = mod-lt x (pow-pos (j + 1)) in
       let m : (x % 2 ^ (j + 1) + 2 ^ j) % 2 ^ (j + 1) ≡ x % 2 ^ (j + 1) + 2 ^ j - 2 ^ (j + 1) =
-          mod-eq-sub-mod (omega arith) ∙ mod-eq-of-lt (omega arith) in
+      mod-eq-sub-mod (omega arith) ∙ mod-eq-of-lt (omega arith) in
       rw (j′, low-sum, m) (omega arith)
 
 -- ---- shifts, magnitudes
@@ -93,9 +92,14 @@ low-half : (b : Bool) (x : ℕ) → x < 2 ^ 64 → cond b (x + 2 ^ 64 * (2 ^ 64 
 low-half true x h = add-mul-mod-self-left x (2 ^ 64) (2 ^ 64 - 1) ∙ mod-eq-of-lt h
 low-half false x h = mod-eq-of-lt h
 
+pub product-below : (x y n : ℕ) → x ≤ n → y < 2 ^ 64 → 0 < n → x * y / 2 ^ 64 < n
+product-below x y n hx hy h =
+    div-lt-iff-lt-mul (pow-pos 64) .1
+    (lt-of-le-of-lt (mul-le-mul-right y hx) (mul-lt-mul-of-pos-left hy h))
+
 module _ (x y : ℕ) (hx : x < 2 ^ 64) (hy : y < 2 ^ 64) where
   below : x * y / 2 ^ 64 < 2 ^ 64
-  below = ?
+  below = product-below x y (2 ^ 64) (le-of-lt hx) hy (pow-pos 64)
 
   pub mulhsu-positive : x < 2 ^ 63 → mulhsu x y ≡ mulhu x y
   unfolding mulhsu sext128
@@ -104,7 +108,7 @@ module _ (x y : ℕ) (hx : x < 2 ^ 64) (hy : y < 2 ^ 64) where
   pub mulhsu-negative : 2 ^ 63 ≤ x → mulhsu x y ≡ sub (mulhu x y) y
   unfolding mulhsu sext128
   mulhsu-negative h =
-      rw (le-leb (2 ^ 63) x h, mul-comm _ y, upper-negative y x, mul-comm y x, mod-eq-of-lt below, mod-eq-of-lt hy)
+      rw (le-leb (2 ^ 63) x h, mul-comm (x + 2 ^ 64 * (2 ^ 64 - 1)) y, upper-negative y x, mul-comm y x, mod-eq-of-lt below, mod-eq-of-lt hy)
 
   pub mulh-positive : y < 2 ^ 63 → mulh x y ≡ mulhsu x y
   unfolding mulh mulhsu sext128
