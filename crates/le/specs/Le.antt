@@ -1,0 +1,23 @@
+-- Numbers as bytes, the lowest first, and their place in a list of bytes.
+use mathlib.Core.List.{List, [], _∷_, _++_}
+use Prim.Native.Nat.{ℕ, zero, suc, _+_, _*_, _/_, _%_}
+use lib.ListN.{length, take, drop}
+
+unfoldable pub number : List ℕ → ℕ
+number [] = 0
+number (b ∷ bs) = b + 256 * number bs
+
+-- k bytes of v
+unfoldable pub bytes : ℕ → ℕ → List ℕ
+bytes zero v = []
+bytes (suc k) v = v % 256 ∷ bytes k (v / 256)
+
+-- the number in the k bytes of m from i on
+unfoldable pub load : ℕ → List ℕ → ℕ → ℕ
+unfolding number
+load k m i = number (take k (drop i m))
+
+-- m with the k bytes of v from i on
+unfoldable pub store : ℕ → List ℕ → ℕ → ℕ → List ℕ
+unfolding bytes
+store k m i v = take i m ++ (bytes k v ++ drop (i + k) m)
