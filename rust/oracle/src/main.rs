@@ -7,7 +7,7 @@ use std::io::{Read, Write};
 use std::path::Path;
 
 const USE: &str =
-    "use: oracle translate < INPUT | rows | record DIR | check DIR | fuzz COUNT [SEED]";
+    "use: oracle translate < INPUT | rows | record ROOT | check ROOT | fuzz COUNT [SEED]";
 
 fn fail(lines: &[String]) -> ! {
     for line in lines.iter().take(20) {
@@ -36,18 +36,17 @@ fn check_rows() {
     println!("oracle: {asked} instructions and places by document 01's rules as the Rust has them");
 }
 
-fn write_files(folder: &Path) {
-    std::fs::create_dir_all(folder).expect("the folder");
+fn write_files(root: &Path) {
     for (name, bytes) in record::files() {
-        std::fs::write(folder.join(name), &bytes).expect(name);
+        std::fs::write(root.join(name), &bytes).expect(name);
         println!("oracle: {name}, {} bytes", bytes.len());
     }
 }
 
-fn check_files(folder: &Path) {
+fn check_files(root: &Path) {
     let mut wrong = Vec::new();
     for (name, bytes) in record::files() {
-        match std::fs::read(folder.join(name)) {
+        match std::fs::read(root.join(name)) {
             Err(error) => wrong.push(format!("{name}: {error}")),
             Ok(found) if found != bytes => {
                 let at = found.iter().zip(&bytes).take_while(|(a, b)| a == b).count();
@@ -100,8 +99,8 @@ fn main() {
     match arguments[..] {
         ["translate"] => translate(),
         ["rows"] => check_rows(),
-        ["record", folder] => write_files(Path::new(folder)),
-        ["check", folder] => check_files(Path::new(folder)),
+        ["record", root] => write_files(Path::new(root)),
+        ["check", root] => check_files(Path::new(root)),
         ["fuzz", count] => fuzz(count.parse().expect(USE), 1),
         ["fuzz", count, seed] => fuzz(count.parse().expect(USE), seed.parse().expect(USE)),
         _ => {

@@ -521,9 +521,9 @@ fn placed() -> Vec<u8> {
 /// The recorded files by name.
 pub fn files() -> [(&'static str, Vec<u8>); 4] {
     [
-        ("blocks.bin", blocks()),
-        ("decode.bin", decoded()),
-        ("compressed.bin", compressed()),
-        ("place.bin", placed()),
+        ("rust/oracle/recorded/blocks.bin", blocks()),
+        ("crates/decode_replay/data/decode.bin", decoded()),
+        ("crates/decode_replay/data/compressed.bin", compressed()),
+        ("rust/oracle/recorded/place.bin", placed()),
     ]
 }
