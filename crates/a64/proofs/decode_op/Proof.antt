@@ -1,0 +1,90 @@
+use borrow.Author.Needs.{needs}
+use Rattle.a64.proofs.decode_op.Statement.{statement}
+use Rattle.a64.proofs.decode_op.Tie as tie
+use Rattle.a64.proofs.decode_op.Reads as reads
+use Rattle.a64.proofs.decode_op.Lts as lts
+
+-- src/lib.rt:54:20
+mul-match : tie.Need-mul-match
+mul-match c = search needs
+
+-- src/lib.rt:54:20
+add-match : tie.Need-add-match
+add-match c = search needs
+
+-- src/lib.rt:68:14
+returns : tie.Need-returns
+returns c = ?
+
+-- src/lib.rt:45:1
+returns-2 : tie.Need-returns-2
+returns-2 c = ?
+
+-- src/lib.rt:45:1
+returns-3 : tie.Need-returns-3
+returns-3 c = ?
+
+-- src/lib.rt:45:1
+returns-4 : tie.Need-returns-4
+returns-4 c = ?
+
+-- src/lib.rt:45:1
+returns-5 : tie.Need-returns-5
+returns-5 c = ?
+
+-- src/lib.rt:45:1
+returns-6 : tie.Need-returns-6
+returns-6 c = ?
+
+-- src/lib.rt:45:1
+returns-7 : tie.Need-returns-7
+returns-7 c = ?
+
+-- src/lib.rt:45:1
+returns-8 : tie.Need-returns-8
+returns-8 c = ?
+
+-- src/lib.rt:45:1
+returns-9 : tie.Need-returns-9
+returns-9 c = ?
+
+-- src/lib.rt:45:1
+returns-10 : tie.Need-returns-10
+returns-10 c = ?
+
+-- src/lib.rt:45:1
+returns-11 : tie.Need-returns-11
+returns-11 c = ?
+
+-- src/lib.rt:45:1
+returns-12 : tie.Need-returns-12
+returns-12 c = ?
+
+-- src/lib.rt:45:1
+returns-13 : tie.Need-returns-13
+returns-13 c = ?
+
+-- src/lib.rt:45:1
+returns-14 : tie.Need-returns-14
+returns-14 c = ?
+
+pub decode-op-spec : {M : Type 1} → statement M
+decode-op-spec =
+    tie.close
+    (tie.spec
+    mul-match
+    add-match
+    returns
+    returns-2
+    returns-3
+    returns-4
+    returns-5
+    returns-6
+    returns-7
+    returns-8
+    returns-9
+    returns-10
+    returns-11
+    returns-12
+    returns-13
+    returns-14)
