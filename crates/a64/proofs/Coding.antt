@@ -1,17 +1,17 @@
 -- `decode` and `encode` undo one another. Assumes nothing.
 use mathlib.Core.Path.{_≡_, refl}
-use mathlib.Core.Bool.{Bool, true, false, cond, _&&_, false≢true}
+use mathlib.Core.Bool.{Bool, true, false, cond}
 use mathlib.Core.List.{List, [], _∷_}
 use Prim.Native.Nat.{ℕ, _+_, _*_, _/_, _%_, _^_, _<_}
 use native.Mathlib.Nat.{div-div-eq-div-mul}
 use native.Mathlib.Omega.{arith}
-use lib.Dec.{lit<}
-use borrow.Author.Tests.{eqb-true}
+use lib.Dec.{eqb, lit<}
+use borrow.Author.Tests.{eqb-true, ne-eqb}
 use Rattle.a64.specs.declared.Op.{Op}
 use Rattle.a64.specs.declared.Op.the-variants.{Add, Sub, And, Orr, Eor, Lslv, Lsrv, Asrv, Mul, Smulh, Umulh, Udiv, Sdiv}
 use Rattle.a64.specs.declared.Form.{Form}
 use Rattle.a64.specs.declared.Form.the-variants.{DataProcessing, Ldr, Str, Movz, Movk, Cmp, Csel, Sxtw, AddSp, SubSp, Blr, Ret, Unreadable}
-use Rattle.a64.specs.Forms.{op-word, ops, encode, InRange, rd, rn, rm, imm12, imm16, top-bits, mid-bits, low-bits, decode-op, decode}
+use Rattle.a64.specs.Forms.{op-word, ops, encode, InRange, rd, rn, rm, imm12, imm16, top-bits, mid-bits, low-bits, form-if, op-bits, decode-op, decode}
 
 -- ---- a form's word is read as the form
 
@@ -53,17 +53,17 @@ record Split6 (w t m s n d : ℕ) : Type 0 where
 
 split6 : (w t m s n d : ℕ) → w ≡ t * 2 ^ 21 + m * 2 ^ 16 + s * 2 ^ 10 + n * 2 ^ 5 + d → m < 32 → s < 64 → n < 32 → d < 32 → Split6 w t m s n d
 split6 w t m s n d e hm hs hn hd =
-    record
-    { quarter = omega arith
-    ; half = omega arith
-    ; top = omega arith
-    ; third = omega arith
-    ; eleven = omega arith
-    ; six = omega arith
-    ; two = omega arith
-    ; four = omega arith
-    ; base = omega arith
-    ; reg = omega arith
+    record {
+      quarter = omega arith;
+      half = omega arith;
+      top = omega arith;
+      third = omega arith;
+      eleven = omega arith;
+      six = omega arith;
+      two = omega arith;
+      four = omega arith;
+      base = omega arith;
+      reg = omega arith;
     }
 
 -- an operation's word is its fixed bits, and no test finds another form by them
@@ -120,9 +120,8 @@ decode-encode Unreadable r = refl
 
 -- ---- a word that is read is the form's word
 
-and-true : (a b : Bool) → a && b ≡ true → (a ≡ true) × (b ≡ true)
-and-true true b e = (refl, e)
-and-true false b e = absurd (false≢true e)
+same-bits : (v w : ℕ) → op-bits v ≡ op-bits w → (v / 2 ^ 21 ≡ w / 2 ^ 21) × (v / 2 ^ 10 % 2 ^ 6 ≡ w / 2 ^ 10 % 2 ^ 6)
+same-bits v w e = omega arith
 
 module _ (w : ℕ) where
   -- the fields fit, and where it is a form its word is w
@@ -139,18 +138,11 @@ module _ (w : ℕ) where
   read-top : (k b : ℕ) {x y : Form} → (w / 2 ^ k ≡ b / 2 ^ k → Read x) → Read y → Read (cond (top-bits k b w) x y)
   read-top k b hx = read-cond (top-bits k b w) (λ e. hx (eqb-true _ _ e))
 
-  read-mid : (k n b : ℕ) {x : Form} → (w / 2 ^ k % 2 ^ n ≡ b / 2 ^ k % 2 ^ n → Read x) → Read (cond (mid-bits k n b w) x Unreadable)
+  read-mid : (k n b : ℕ) {x : Form} → (w / 2 ^ k % 2 ^ n ≡ b / 2 ^ k % 2 ^ n → Read x) → Read (form-if (mid-bits k n b w) x)
   read-mid k n b hx = read-cond (mid-bits k n b w) (λ e. hx (eqb-true _ _ e)) read-none
 
-  read-low : (n b : ℕ) {x : Form} → (w % 2 ^ n ≡ b % 2 ^ n → Read x) → Read (cond (low-bits n b w) x Unreadable)
+  read-low : (n b : ℕ) {x : Form} → (w % 2 ^ n ≡ b % 2 ^ n → Read x) → Read (form-if (low-bits n b w) x)
   read-low n b hx = read-cond (low-bits n b w) (λ e. hx (eqb-true _ _ e)) read-none
-
-  read-both : (k n l b : ℕ) {x : Form} → (w / 2 ^ k % 2 ^ n ≡ b / 2 ^ k % 2 ^ n → w % 2 ^ l ≡ b % 2 ^ l → Read x)
-      → Read (cond (mid-bits k n b w && low-bits l b w) x Unreadable)
-  read-both k n l b hx =
-      read-cond (mid-bits k n b w && low-bits l b w)
-      (λ e. let f = and-true (mid-bits k n b w) _ e in hx (eqb-true _ _ (f .0)) (eqb-true _ _ (f .1)))
-      read-none
 
   quotients : (w / 32 / 32 ≡ w / 2 ^ 10) × (w / 2 ^ 10 / 64 ≡ w / 2 ^ 16) × (w / 2 ^ 16 / 32 ≡ w / 2 ^ 21)
   quotients = (div-div-eq-div-mul w 32 32, div-div-eq-div-mul w 1024 64, div-div-eq-div-mul w 65536 32)
@@ -161,13 +153,11 @@ module _ (w : ℕ) where
   read-op : (os : List Op) → Read (decode-op os w)
   read-op [] = read-none
   read-op (op ∷ os) =
-      read-cond (top-bits 21 (op-word op) w && mid-bits 10 6 (op-word op) w)
+      read-cond (eqb (op-bits w) (op-bits (op-word op)))
       (λ e.
-          let b = and-true (top-bits 21 (op-word op) w) _ e in
-          let h : w / 2 ^ 21 ≡ op-word op / 2 ^ 21 = eqb-true _ _ (b .0) in
-          let m : w / 2 ^ 10 % 2 ^ 6 ≡ op-word op / 2 ^ 10 % 2 ^ 6 = eqb-true _ _ (b .1) in
-          let r = op-row op .whole in
-          (omega arith, λ k. omega (arith, quotients)))
+      let s = same-bits w (op-word op) (eqb-true _ _ e) in
+      let r = op-row op .whole in
+      (omega arith, λ k. omega (arith, quotients)))
       (read-op os)
 
   read : Read (decode w)
@@ -179,10 +169,10 @@ module _ (w : ℕ) where
       (read-top 22 0xF9000000 (λ h. (omega arith, λ k. omega arith))
       (read-top 22 0x910003FF (λ h. read-low 10 0x910003FF (λ l. (omega arith, λ k. omega arith)))
       (read-top 22 0xD10003FF (λ h. read-low 10 0xD10003FF (λ l. (omega arith, λ k. omega arith)))
-      (read-top 21 0xEB00001F (λ h. read-both 10 6 5 0xEB00001F (λ m l. (omega arith, λ k. omega (arith, quotients))))
+      (read-top 21 0xEB00001F (λ h. read-mid 10 6 0xEB00001F (λ m. read-low 5 0xEB00001F (λ l. (omega arith, λ k. omega (arith, quotients)))))
       (read-top 21 0x9A800000 (λ h. read-mid 10 2 0x9A800000 (λ m. (omega arith, λ k. omega (arith, quotients, condition))))
       (read-top 21 0x93407C00 (λ h. read-mid 10 11 0x93407C00 (λ m. (omega arith, λ k. omega (arith, quotients))))
-      (read-top 21 0xD63F0000 (λ h. read-both 10 11 5 0xD63F0000 (λ m l. (omega arith, λ k. omega (arith, quotients))))
+      (read-top 21 0xD63F0000 (λ h. read-mid 10 11 0xD63F0000 (λ m. read-low 5 0xD63F0000 (λ l. (omega arith, λ k. omega (arith, quotients)))))
       (read-top 21 0xD65F03C0 (λ h. read-low 21 0xD65F03C0 (λ l. (tt, λ k. omega arith)))
       (read-op ops)))))))))))
 
@@ -212,3 +202,28 @@ encode-lt Unreadable r = omega arith
 
 pub decode-lt : (w : ℕ) → (decode w ≡ Unreadable → ⊥) → w < 2 ^ 32
 decode-lt w k = rw (encode-decode w k) at (encode-lt (decode w) (decode-in-range w))
+
+-- ---- the tests of `decode` by bits 31 to 21
+
+pub quarter : (w : ℕ) → w / 2 ^ 23 ≡ w / 2 ^ 21 / 4
+quarter w = omega arith
+
+pub half : (w : ℕ) → w / 2 ^ 22 ≡ w / 2 ^ 21 / 2
+half w = omega arith
+
+pub not-quarter : (w k : ℕ) → (w / 2 ^ 21 ≡ k * 4 → ⊥) → (w / 2 ^ 21 ≡ k * 4 + 1 → ⊥) → (w / 2 ^ 21 ≡ k * 4 + 2 → ⊥)
+    → (w / 2 ^ 21 ≡ k * 4 + 3 → ⊥) → w / 2 ^ 23 ≡ k → ⊥
+not-quarter w k a b c d e = omega arith
+
+pub not-half : (w k : ℕ) → (w / 2 ^ 21 ≡ k * 2 → ⊥) → (w / 2 ^ 21 ≡ k * 2 + 1 → ⊥) → w / 2 ^ 22 ≡ k → ⊥
+not-half w k a b e = omega arith
+
+-- no form but those with three registers has other bits 31 to 21
+pub decode-rest : (w : ℕ) → (w / 2 ^ 23 ≡ 0x1A5 → ⊥) → (w / 2 ^ 23 ≡ 0x1E5 → ⊥) → (w / 2 ^ 22 ≡ 0x3E5 → ⊥) → (w / 2 ^ 22 ≡ 0x3E4 → ⊥)
+    → (w / 2 ^ 22 ≡ 0x244 → ⊥) → (w / 2 ^ 22 ≡ 0x344 → ⊥) → (w / 2 ^ 21 ≡ 0x758 → ⊥) → (w / 2 ^ 21 ≡ 0x4D4 → ⊥) → (w / 2 ^ 21 ≡ 0x49A → ⊥)
+    → (w / 2 ^ 21 ≡ 0x6B1 → ⊥) → (w / 2 ^ 21 ≡ 0x6B2 → ⊥) → decode-op ops w ≡ decode w
+unfolding decode
+decode-rest w movz movk ldr str add sub cmp csel sxtw blr ret =
+    simp
+    (ne-eqb _ _ movz, ne-eqb _ _ movk, ne-eqb _ _ ldr, ne-eqb _ _ str, ne-eqb _ _ add, ne-eqb _ _ sub, ne-eqb _ _ cmp, ne-eqb _ _ csel,
+    ne-eqb _ _ sxtw, ne-eqb _ _ blr, ne-eqb _ _ ret)

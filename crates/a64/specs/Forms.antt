@@ -1,7 +1,7 @@
 -- The words of the A64 forms, and the form of a word, from the Arm Architecture Reference Manual for A-profile (DDI 0487), C6.2. The manual's
 -- section stands beside each form. A field is a number at its lowest bit, and every other bit of a form is fixed.
 use Prim.Native.Nat.{ℕ, _+_, _*_, _/_, _%_, _^_, _<_}
-use mathlib.Core.Bool.{Bool, true, false, cond, _&&_}
+use mathlib.Core.Bool.{Bool, true, false, cond}
 use mathlib.Core.List.{List, [], _∷_}
 use lib.Dec.{eqb}
 use Rattle.a64.specs.declared.Op.{Op}
@@ -110,11 +110,17 @@ mid-bits k n b w = eqb (w / 2 ^ k % 2 ^ n) (b / 2 ^ k % 2 ^ n)
 abbrev pub low-bits : ℕ → ℕ → ℕ → Bool
 low-bits n b w = eqb (w % 2 ^ n) (b % 2 ^ n)
 
--- the first operation whose bits w has, the registers apart
+-- bits 31 to 21 and 15 to 10 side by side: all but the three registers
+abbrev pub op-bits : ℕ → ℕ
+op-bits w = w / 2 ^ 21 * 64 + w / 2 ^ 10 % 64
+
+-- the three-register form of a word, by the operations one after the other
 abbrev pub decode-op : List Op → ℕ → Form
 decode-op [] w = Unreadable
-decode-op (op ∷ rest) w =
-    cond (top-bits 21 (op-word op) w && mid-bits 10 6 (op-word op) w) (DataProcessing op (rd w) (rn w) (rm w)) (decode-op rest w)
+decode-op (op ∷ rest) w = cond (eqb (op-bits w) (op-bits (op-word op))) (DataProcessing op (rd w) (rn w) (rm w)) (decode-op rest w)
+
+abbrev pub form-if : Bool → Form → Form
+form-if b f = cond b f Unreadable
 
 -- the form of a word: its fixed bits are compared with those of the form's word, and its fields are read
 unfoldable pub decode : ℕ → Form
@@ -123,11 +129,11 @@ decode w =
     (cond (top-bits 23 0xF2800000 w) (Movk (rd w) (w / 2 ^ 21 % 4) (imm16 w))
     (cond (top-bits 22 0xF9400000 w) (Ldr (rd w) (rn w) (imm12 w))
     (cond (top-bits 22 0xF9000000 w) (Str (rd w) (rn w) (imm12 w))
-    (cond (top-bits 22 0x910003FF w) (cond (low-bits 10 0x910003FF w) (AddSp (imm12 w)) Unreadable)
-    (cond (top-bits 22 0xD10003FF w) (cond (low-bits 10 0xD10003FF w) (SubSp (imm12 w)) Unreadable)
-    (cond (top-bits 21 0xEB00001F w) (cond (mid-bits 10 6 0xEB00001F w && low-bits 5 0xEB00001F w) (Cmp (rn w) (rm w)) Unreadable)
-    (cond (top-bits 21 0x9A800000 w) (cond (mid-bits 10 2 0x9A800000 w) (Csel (rd w) (rn w) (rm w) (w / 2 ^ 12 % 16)) Unreadable)
-    (cond (top-bits 21 0x93407C00 w) (cond (mid-bits 10 11 0x93407C00 w) (Sxtw (rd w) (rn w)) Unreadable)
-    (cond (top-bits 21 0xD63F0000 w) (cond (mid-bits 10 11 0xD63F0000 w && low-bits 5 0xD63F0000 w) (Blr (rn w)) Unreadable)
-    (cond (top-bits 21 0xD65F03C0 w) (cond (low-bits 21 0xD65F03C0 w) Ret Unreadable)
+    (cond (top-bits 22 0x910003FF w) (form-if (low-bits 10 0x910003FF w) (AddSp (imm12 w)))
+    (cond (top-bits 22 0xD10003FF w) (form-if (low-bits 10 0xD10003FF w) (SubSp (imm12 w)))
+    (cond (top-bits 21 0xEB00001F w) (form-if (mid-bits 10 6 0xEB00001F w) (form-if (low-bits 5 0xEB00001F w) (Cmp (rn w) (rm w))))
+    (cond (top-bits 21 0x9A800000 w) (form-if (mid-bits 10 2 0x9A800000 w) (Csel (rd w) (rn w) (rm w) (w / 2 ^ 12 % 16)))
+    (cond (top-bits 21 0x93407C00 w) (form-if (mid-bits 10 11 0x93407C00 w) (Sxtw (rd w) (rn w)))
+    (cond (top-bits 21 0xD63F0000 w) (form-if (mid-bits 10 11 0xD63F0000 w) (form-if (low-bits 5 0xD63F0000 w) (Blr (rn w))))
+    (cond (top-bits 21 0xD65F03C0 w) (form-if (low-bits 21 0xD65F03C0 w) Ret)
     (decode-op ops w)))))))))))
