@@ -224,6 +224,16 @@ pub decode-rest : (w : ℕ) → (w / 2 ^ 23 ≡ 0x1A5 → ⊥) → (w / 2 ^ 23 �
     → (w / 2 ^ 21 ≡ 0x6B1 → ⊥) → (w / 2 ^ 21 ≡ 0x6B2 → ⊥) → decode-op ops w ≡ decode w
 unfolding decode
 decode-rest w movz movk ldr str add sub cmp csel sxtw blr ret =
-    simp
-    (ne-eqb _ _ movz, ne-eqb _ _ movk, ne-eqb _ _ ldr, ne-eqb _ _ str, ne-eqb _ _ add, ne-eqb _ _ sub, ne-eqb _ _ cmp, ne-eqb _ _ csel,
-    ne-eqb _ _ sxtw, ne-eqb _ _ blr, ne-eqb _ _ ret)
+    simp (
+      ne-eqb _ _ movz,
+      ne-eqb _ _ movk,
+      ne-eqb _ _ ldr,
+      ne-eqb _ _ str,
+      ne-eqb _ _ add,
+      ne-eqb _ _ sub,
+      ne-eqb _ _ cmp,
+      ne-eqb _ _ csel,
+      ne-eqb _ _ sxtw,
+      ne-eqb _ _ blr,
+      ne-eqb _ _ ret,
+    )

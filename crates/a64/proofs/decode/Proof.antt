@@ -4,199 +4,125 @@ use Rattle.a64.proofs.Coding.{quarter, half, not-quarter, not-half, dec
 use borrow.Author.Needs.{needs}
 use Rattle.a64.proofs.decode.Statement.{statement}
 use Rattle.a64.proofs.decode.Tie as tie
-use Rattle.a64.proofs.decode.Reads as reads
-use Rattle.a64.proofs.decode.Lts as lts
-use Rattle.a64.proofs.decode_op.Reads as decode-op-reads
-use Rattle.a64.proofs.form_if.Reads as form-if-reads
 
--- src/lib.rt:108:18
-form-if-requires : tie.Need-form-if-requires
-form-if-requires c κs = search needs
-
--- src/lib.rt:109:18
-form-if-requires-2 : tie.Need-form-if-requires-2
-form-if-requires-2 c κs = search needs
-
--- src/lib.rt:110:18
-form-if-requires-3 : tie.Need-form-if-requires-3
-form-if-requires-3 c κs = search needs
-
--- src/lib.rt:111:18
-form-if-requires-4 : tie.Need-form-if-requires-4
-form-if-requires-4 c κs = search needs
-
--- src/lib.rt:112:46
-form-if-requires-5 : tie.Need-form-if-requires-5
-form-if-requires-5 c κs = search needs
-
--- src/lib.rt:112:18
-form-if-requires-6 : tie.Need-form-if-requires-6
-form-if-requires-6 c κs = search needs
-
--- src/lib.rt:113:18
-form-if-requires-7 : tie.Need-form-if-requires-7
-form-if-requires-7 c κs = search needs
-
--- src/lib.rt:114:18
-form-if-requires-8 : tie.Need-form-if-requires-8
-form-if-requires-8 c κs = search needs
-
--- src/lib.rt:115:52
-form-if-requires-9 : tie.Need-form-if-requires-9
-form-if-requires-9 c κs = search needs
-
--- src/lib.rt:115:18
-form-if-requires-10 : tie.Need-form-if-requires-10
-form-if-requires-10 c κs = search needs
-
--- src/lib.rt:116:18
-form-if-requires-11 : tie.Need-form-if-requires-11
-form-if-requires-11 c κs = search needs
-
--- src/lib.rt:117:14
-decode-op-requires : tie.Need-decode-op-requires
-decode-op-requires c κs = search needs
-
--- src/lib.rt:86:1
 returns : tie.Need-returns
 unfolding decode
 returns c = simp (quarter, half, c .match .keys1)
 
--- src/lib.rt:86:1
 returns-2 : tie.Need-returns-2
 unfolding decode
 returns-2 c = simp (quarter, half, c .match .keys2)
 
--- src/lib.rt:86:1
 returns-3 : tie.Need-returns-3
 unfolding decode
 returns-3 c = simp (quarter, half, c .match .keys3)
 
--- src/lib.rt:86:1
 returns-4 : tie.Need-returns-4
 unfolding decode
 returns-4 c = simp (quarter, half, c .match .keys4)
 
--- src/lib.rt:86:1
 returns-5 : tie.Need-returns-5
 unfolding decode
 returns-5 c = simp (quarter, half, c .match .keys5)
 
--- src/lib.rt:86:1
 returns-6 : tie.Need-returns-6
 unfolding decode
 returns-6 c = simp (quarter, half, c .match .keys6)
 
--- src/lib.rt:86:1
 returns-7 : tie.Need-returns-7
 unfolding decode
 returns-7 c = simp (quarter, half, c .match .keys7)
 
--- src/lib.rt:86:1
 returns-8 : tie.Need-returns-8
 unfolding decode
 returns-8 c = simp (quarter, half, c .match .keys8)
 
--- src/lib.rt:86:1
 returns-9 : tie.Need-returns-9
 unfolding decode
 returns-9 c = simp (quarter, half, c .match .keys9)
 
--- src/lib.rt:86:1
 returns-10 : tie.Need-returns-10
 unfolding decode
 returns-10 c = simp (quarter, half, c .match .keys10)
 
--- src/lib.rt:86:1
 returns-11 : tie.Need-returns-11
 unfolding decode
 returns-11 c = simp (quarter, half, c .match .keys11)
 
--- src/lib.rt:86:1
 returns-12 : tie.Need-returns-12
 unfolding decode
 returns-12 c = simp (quarter, half, c .match .keys12)
 
--- src/lib.rt:86:1
 returns-13 : tie.Need-returns-13
 unfolding decode
 returns-13 c = c .form-if .ensures ∙ simp (quarter, half, c .before .match .keys13)
 
--- src/lib.rt:86:1
 returns-14 : tie.Need-returns-14
 unfolding decode
 returns-14 c = c .form-if2 .ensures ∙ simp (quarter, half, c .before .match .keys14)
 
--- src/lib.rt:86:1
 returns-15 : tie.Need-returns-15
 unfolding decode
 returns-15 c = c .form-if3 .ensures ∙ simp (quarter, half, c .before .match .keys15)
 
--- src/lib.rt:86:1
 returns-16 : tie.Need-returns-16
 unfolding decode
 returns-16 c = c .form-if4 .ensures ∙ simp (quarter, half, c .before .match .keys16)
 
--- src/lib.rt:86:1
 returns-17 : tie.Need-returns-17
 unfolding decode
 returns-17 c = c .form-if6 .ensures ∙ simp (c .before .form-if5 .ensures, quarter, half, c .before .before .match .keys17)
 
--- src/lib.rt:86:1
 returns-18 : tie.Need-returns-18
 unfolding decode
 returns-18 c = c .form-if7 .ensures ∙ simp (quarter, half, c .before .match .keys18)
 
--- src/lib.rt:86:1
 returns-19 : tie.Need-returns-19
 unfolding decode
 returns-19 c = c .form-if8 .ensures ∙ simp (quarter, half, c .before .match .keys19)
 
--- src/lib.rt:86:1
 returns-20 : tie.Need-returns-20
 unfolding decode
 returns-20 c = c .form-if10 .ensures ∙ simp (c .before .form-if9 .ensures, quarter, half, c .before .before .match .keys20)
 
--- src/lib.rt:86:1
 returns-21 : tie.Need-returns-21
 unfolding decode
 returns-21 c = c .form-if11 .ensures ∙ simp (quarter, half, c .before .match .keys21)
 
--- src/lib.rt:86:1
 returns-22 : tie.Need-returns-22
 returns-22 c =
     let w = c .before .before .args .w in
     let r = c .before .match .rest in
     c .decode-op .ensures
     ∙ decode-rest w
-      (not-quarter w 0x1A5 (r .0 .0 .0 .0 .0 .0 .0 .0 .0 .0 .0 .0 .0 .0 .0 .0 .0 .0 .0 .0 .1) (r .0 .0 .0 .0 .0 .0 .0 .0 .0 .0 .0 .0 .0 .0 .0 .0 .0 .0 .0 .1) (r .0 .0 .0 .0 .0 .0 .0 .0 .0 .0 .0 .0 .0 .0 .0 .0 .0 .0 .1) (r .0 .0 .0 .0 .0 .0 .0 .0 .0 .0 .0 .0 .0 .0 .0 .0 .0 .1))
-      (not-quarter w 0x1E5 (r .0 .0 .0 .0 .0 .0 .0 .0 .0 .0 .0 .0 .0 .0 .0 .0 .1) (r .0 .0 .0 .0 .0 .0 .0 .0 .0 .0 .0 .0 .0 .0 .0 .1) (r .0 .0 .0 .0 .0 .0 .0 .0 .0 .0 .0 .0 .0 .0 .1) (r .0 .0 .0 .0 .0 .0 .0 .0 .0 .0 .0 .0 .0 .1))
-      (not-half w 0x3E5 (r .0 .0 .0 .0 .0 .0 .0 .0 .0 .0 .0 .0 .1) (r .0 .0 .0 .0 .0 .0 .0 .0 .0 .0 .0 .1))
-      (not-half w 0x3E4 (r .0 .0 .0 .0 .0 .0 .0 .0 .0 .0 .1) (r .0 .0 .0 .0 .0 .0 .0 .0 .0 .1))
-      (not-half w 0x244 (r .0 .0 .0 .0 .0 .0 .0 .0 .1) (r .0 .0 .0 .0 .0 .0 .0 .1))
-      (not-half w 0x344 (r .0 .0 .0 .0 .0 .0 .1) (r .0 .0 .0 .0 .0 .1))
-      (r .0 .0 .0 .0 .1)
-      (r .0 .0 .0 .1)
-      (r .0 .0 .1)
-      (r .0 .1)
-      (r .1)
+    (not-quarter w 0x1A5 (r .0 .0 .0 .0 .0 .0 .0 .0 .0 .0 .0 .0 .0 .0 .0 .0 .0 .0 .0 .0 .1) (r .0 .0 .0 .0 .0 .0 .0 .0 .0 .0 .0 .0 .0 .0 .0 .0 .0 .0 .0 .1) (r .0 .0 .0 .0 .0 .0 .0 .0 .0 .0 .0 .0 .0 .0 .0 .0 .0 .0 .1) (r .0 .0 .0 .0 .0 .0 .0 .0 .0 .0 .0 .0 .0 .0 .0 .0 .0 .1))
+    (not-quarter w 0x1E5 (r .0 .0 .0 .0 .0 .0 .0 .0 .0 .0 .0 .0 .0 .0 .0 .0 .1) (r .0 .0 .0 .0 .0 .0 .0 .0 .0 .0 .0 .0 .0 .0 .0 .1) (r .0 .0 .0 .0 .0 .0 .0 .0 .0 .0 .0 .0 .0 .0 .1) (r .0 .0 .0 .0 .0 .0 .0 .0 .0 .0 .0 .0 .0 .1))
+    (not-half w 0x3E5 (r .0 .0 .0 .0 .0 .0 .0 .0 .0 .0 .0 .0 .1) (r .0 .0 .0 .0 .0 .0 .0 .0 .0 .0 .0 .1))
+    (not-half w 0x3E4 (r .0 .0 .0 .0 .0 .0 .0 .0 .0 .0 .1) (r .0 .0 .0 .0 .0 .0 .0 .0 .0 .1))
+    (not-half w 0x244 (r .0 .0 .0 .0 .0 .0 .0 .0 .1) (r .0 .0 .0 .0 .0 .0 .0 .1))
+    (not-half w 0x344 (r .0 .0 .0 .0 .0 .0 .1) (r .0 .0 .0 .0 .0 .1))
+    (r .0 .0 .0 .0 .1)
+    (r .0 .0 .0 .1)
+    (r .0 .0 .1)
+    (r .0 .1)
+    (r .1)
 
 pub decode-spec : {M : Type 1} → statement M
 decode-spec =
     tie.close
     (tie.spec
-    form-if-requires
-    form-if-requires-2
-    form-if-requires-3
-    form-if-requires-4
-    form-if-requires-5
-    form-if-requires-6
-    form-if-requires-7
-    form-if-requires-8
-    form-if-requires-9
-    form-if-requires-10
-    form-if-requires-11
-    decode-op-requires
+    (λ c κs. search needs)
+    (λ c κs. search needs)
+    (λ c κs. search needs)
+    (λ c κs. search needs)
+    (λ c κs. search needs)
+    (λ c κs. search needs)
+    (λ c κs. search needs)
+    (λ c κs. search needs)
+    (λ c κs. search needs)
+    (λ c κs. search needs)
+    (λ c κs. search needs)
+    (λ c κs. search needs)
     returns
     returns-2
     returns-3

@@ -2,18 +2,7 @@ use borrow.Author.Tests.{ne-eqb}
 use borrow.Author.Needs.{needs}
 use Rattle.a64.proofs.decode_op.Statement.{statement}
 use Rattle.a64.proofs.decode_op.Tie as tie
-use Rattle.a64.proofs.decode_op.Reads as reads
-use Rattle.a64.proofs.decode_op.Lts as lts
 
--- src/lib.rt:54:20
-mul-match : tie.Need-mul-match
-mul-match c = search needs
-
--- src/lib.rt:54:20
-add-match : tie.Need-add-match
-add-match c = search needs
-
--- src/lib.rt:68:14
 returns : tie.Need-returns
 returns c =
     simp (
@@ -32,55 +21,42 @@ returns c =
       ne-eqb _ _ (c .match .rest .1),
     )
 
--- src/lib.rt:45:1
 returns-2 : tie.Need-returns-2
 returns-2 c = rw (c .match .keys1)
 
--- src/lib.rt:45:1
 returns-3 : tie.Need-returns-3
 returns-3 c = rw (c .match .keys2)
 
--- src/lib.rt:45:1
 returns-4 : tie.Need-returns-4
 returns-4 c = rw (c .match .keys3)
 
--- src/lib.rt:45:1
 returns-5 : tie.Need-returns-5
 returns-5 c = rw (c .match .keys4)
 
--- src/lib.rt:45:1
 returns-6 : tie.Need-returns-6
 returns-6 c = rw (c .match .keys5)
 
--- src/lib.rt:45:1
 returns-7 : tie.Need-returns-7
 returns-7 c = rw (c .match .keys6)
 
--- src/lib.rt:45:1
 returns-8 : tie.Need-returns-8
 returns-8 c = rw (c .match .keys7)
 
--- src/lib.rt:45:1
 returns-9 : tie.Need-returns-9
 returns-9 c = rw (c .match .keys8)
 
--- src/lib.rt:45:1
 returns-10 : tie.Need-returns-10
 returns-10 c = rw (c .match .keys9)
 
--- src/lib.rt:45:1
 returns-11 : tie.Need-returns-11
 returns-11 c = rw (c .match .keys10)
 
--- src/lib.rt:45:1
 returns-12 : tie.Need-returns-12
 returns-12 c = rw (c .match .keys11)
 
--- src/lib.rt:45:1
 returns-13 : tie.Need-returns-13
 returns-13 c = rw (c .match .keys12)
 
--- src/lib.rt:45:1
 returns-14 : tie.Need-returns-14
 returns-14 c = rw (c .match .keys13)
 
@@ -88,8 +64,8 @@ pub decode-op-spec : {M : Type 1} → statement M
 decode-op-spec =
     tie.close
     (tie.spec
-    mul-match
-    add-match
+    (λ c. search needs)
+    (λ c. search needs)
     returns
     returns-2
     returns-3
