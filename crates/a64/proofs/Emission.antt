@@ -1,0 +1,184 @@
+-- Laws of `emitted`, `emitted-all` and `constant`: chains of calls, sizes, room. Assumes nothing.
+use Prim.Native.Nat.{ℕ, zero, suc, _+_, _*_, _/_, _%_, _^_, _≤_, _<_, min}
+use native.Mathlib.Omega.{arith}
+use native.Mathlib.Numerals.{add-one}
+use mathlib.Core.Path.{_≡_, refl, sym, ap, _∙_}
+use mathlib.Core.Bool.{Bool, true, false, cond}
+use mathlib.Core.List.{List, [], _∷_, _++_, append-assoc, append-nil, map, map-append, flatten}
+use lib.ListN.{length, take, drop, getD, set, length-append, length-take, length-drop, length-map}
+use lib.Seq.{take-nil, take-suc, take-suc-set, take-all, take-at, drop-append-add, drop-drop, length-take-le, sets, sets-eq, paste, take-paste}
+use lib.Dec.{leb, eqb}
+use borrow.Author.Tests.{le-leb, lt-leb, eq-eqb, ne-eqb}
+use Rattle.a64.specs.declared.Form.{Form}
+use Rattle.a64.specs.declared.Form.the-variants.{Movz, Movk}
+use Rattle.a64.specs.Forms.{encode}
+use Rattle.a64.specs.Emitter.{max-words, emitted, encoded, emitted-all, halfword, upper, constant, Written, bytes, word-bytes}
+
+-- words that fit are added
+pub emitted-fits : (h ws : List ℕ) → length h + length ws ≤ max-words → emitted h ws ≡ h ++ ws
+unfolding emitted
+emitted-fits h ws f = rw (le-leb (length h + length ws) max-words f)
+
+-- words that do not fit are not
+pub emitted-full : (h ws : List ℕ) → max-words < length h + length ws → emitted h ws ≡ h
+unfolding emitted
+emitted-full h ws f = rw (lt-leb (length h + length ws) max-words f)
+
+cond-same : (b : Bool) (h : List ℕ) → cond b h h ≡ h
+cond-same true h = refl
+cond-same false h = refl
+
+-- no words
+pub emitted-none : (h : List ℕ) → emitted h [] ≡ h
+unfolding emitted
+emitted-none h = rw append-nil (cond-same (leb (length h + 0) max-words) h)
+
+pub length-encoded : (fs : List Form) → length (encoded fs) ≡ length fs
+length-encoded fs = length-map fs encode
+
+-- the words of several calls, where all fit
+pub emitted-all-fits : (h : List ℕ) (gs : List (List Form)) → length h + length (flatten gs) ≤ max-words
+    → emitted-all h gs ≡ h ++ encoded (flatten gs)
+unfolding flatten
+emitted-all-fits h [] f = sym (append-nil h)
+emitted-all-fits h (g ∷ gs) f =
+    let l : length (g ++ flatten gs) ≡ length g + length (flatten gs) = length-append g (flatten gs) in
+    let m : length (encoded g) ≡ length g = length-encoded g in
+    let k : length (h ++ encoded g) ≡ length h + length (encoded g) = length-append h (encoded g) in
+    rw (emitted-fits h (encoded g) (omega arith), emitted-all-fits (h ++ encoded g) gs (omega arith), append-assoc, map-append)
+
+-- calls after calls
+pub emitted-all-append : (h : List ℕ) (gs bs : List (List Form)) → emitted-all h (gs ++ bs) ≡ emitted-all (emitted-all h gs) bs
+emitted-all-append h [] bs = refl
+emitted-all-append h (g ∷ gs) bs = emitted-all-append (emitted h (encoded g)) gs bs
+
+-- where all fit, the calls are one
+pub emitted-all-one : (h : List ℕ) (gs : List (List Form)) → length h + length (flatten gs) ≤ max-words
+    → emitted-all h gs ≡ emitted h (encoded (flatten gs))
+emitted-all-one h gs f =
+    let m : length (encoded (flatten gs)) ≡ length (flatten gs) = length-encoded (flatten gs) in
+    emitted-all-fits h gs f ∙ sym (emitted-fits h (encoded (flatten gs)) (omega arith))
+
+-- ---- an array of words
+
+-- one word stored behind n
+pub stored : (l : List ℕ) (n w : ℕ) → length l ≡ max-words → n < max-words → take (n + 1) (set l n w) ≡ emitted (take n l) (w ∷ [])
+stored l n w e h =
+    let k : length (take n l) ≡ n = length-take-le n l (omega arith) in
+    rw (add-one, take-suc-set l n w (omega arith), emitted-fits (take n l) (w ∷ []) (omega arith))
+
+-- no room behind n
+pub kept : (l : List ℕ) (n : ℕ) (ws : List ℕ) → length l ≡ max-words → max-words < n + length ws → emitted (take n l) ws ≡ take n l
+kept l n [] e h = emitted-none (take n l)
+kept l n (w ∷ ws) e h = emitted-full (take n l) (w ∷ ws) (rw length-take (omega arith))
+
+take-min : (n : ℕ) (l : List ℕ) → take (min n (length l)) l ≡ take n l
+take-min zero [] = take-nil (min 0 0)
+take-min (suc n) [] = take-nil (min (suc n) 0)
+take-min zero (x ∷ l) = let e : min 0 (suc (length l)) ≡ 0 = omega arith in rw e
+take-min (suc n) (x ∷ l) =
+    let e : min (suc n) (suc (length l)) ≡ suc (min n (length l)) = omega arith in
+    rw e (ap (λ (t : List ℕ). x ∷ t) (take-min n l))
+
+-- the words that are held, by their count
+pub take-held : (n : ℕ) (l : List ℕ) → length l ≡ max-words → take (min n max-words) l ≡ take n l
+take-held n l e = rw e at (take-min n l)
+
+-- the words of an emitter copied behind n
+pub pasted : (l : List ℕ) (at : ℕ) (s : List ℕ) (n : ℕ) → length l ≡ max-words → length s ≡ max-words
+    → at + min n max-words ≤ max-words
+    → take (at + min n max-words) (paste l at s (min n max-words)) ≡ emitted (take at l) (take n s)
+pasted l at s n e f h =
+    let a : length (take at l) ≡ at = length-take-le at l (omega arith) in
+    let b : length (take n s) ≡ min n max-words = rw f at (length-take n s) in
+    take-paste l at s (min n max-words) (omega arith) (omega arith)
+    ∙ rw (take-held n s f) (sym (emitted-fits (take at l) (take n s) (omega arith)))
+
+-- ---- bytes
+
+pub length-bytes : (ws : List ℕ) → length (bytes ws) ≡ 4 * length ws
+length-bytes [] = refl
+length-bytes (w ∷ ws) = let r = length-bytes ws in omega arith
+
+bytes-append : (vs ws : List ℕ) → bytes (vs ++ ws) ≡ bytes vs ++ bytes ws
+bytes-append [] ws = refl
+bytes-append (v ∷ vs) ws = ap (λ (t : List ℕ). word-bytes v ++ t) (bytes-append vs ws)
+
+pub length-written : (ws d : List ℕ) (i : ℕ) → i ≤ length ws → 4 * i ≤ length d → length (bytes (take i ws) ++ drop (4 * i) d) ≡ length d
+length-written ws d i h k =
+    let t : length (take i ws) ≡ i = length-take-le i ws h in
+    rw length-append (omega (arith, length-bytes (take i ws), length-drop (4 * i) d))
+
+-- the bytes of one word more
+pub bytes-more : (ws d : List ℕ) (i : ℕ) → i < length ws → 4 * i + 4 ≤ length d
+    → sets (bytes (take i ws) ++ drop (4 * i) d) (4 * i) (word-bytes (getD ws i 0)) ≡ bytes (take (i + 1) ws) ++ drop (4 * (i + 1)) d
+bytes-more ws d i h k =
+    let w : ℕ = getD ws i 0 in
+    let b : List ℕ = bytes (take i ws) in
+    let x : List ℕ = drop (4 * i) d in
+    let t : length (take i ws) ≡ i = length-take-le i ws (omega arith) in
+    let lb : length b ≡ 4 * i = omega (arith, length-bytes (take i ws)) in
+    let lx : length (b ++ x) ≡ length b + length x = length-append b x in
+    let f : bytes (take (i + 1) ws) ≡ b ++ word-bytes w = rw (add-one, take-suc ws i 0 h) (bytes-append (take i ws) (w ∷ [])) in
+    let q : 4 * i + 4 ≡ 4 * (i + 1) = omega arith in
+    let g : drop (4 * i + 4) (b ++ x) ≡ drop (4 * (i + 1)) d =
+    ap (λ (n : ℕ). drop (n + 4) (b ++ x)) (sym lb) ∙ drop-append-add b x 4 ∙ drop-drop 4 (4 * i) d ∙ ap (λ (n : ℕ). drop n d) q in
+    sets-eq (word-bytes w) (b ++ x) (4 * i) (omega (arith, length-drop (4 * i) d)) ∙ rw (take-at b x (4 * i) lb, g, f)
+
+-- all the held words as bytes
+pub written : (ws d : List ℕ) (len : ℕ) → length ws ≡ max-words → (n : ℕ) → n ≡ min len max-words → (d′ : List ℕ)
+    → d′ ≡ bytes (take n ws) ++ drop (4 * n) d → Written (take len ws) d (4 * n) d′
+written ws d len l n e d′ f =
+    let t : take n ws ≡ take len ws = rw e (take-held len ws l) in
+    let k : length (take len ws) ≡ n = rw l at (length-take len ws) ∙ sym e in
+    let b : 4 * n ≡ length (bytes (take len ws)) = omega (arith, length-bytes (take len ws)) in
+    record { count = b; content = f ∙ rw (t, b) }
+
+-- ---- constants
+
+-- a halfword that is 0 adds nothing, and any other one form
+pub upper-none : (rd hw p : ℕ) → p ≡ 0 → upper rd hw p ≡ []
+unfolding upper
+upper-none rd hw p e = rw (eq-eqb p 0 e)
+
+pub upper-some : (rd hw p : ℕ) → (p ≡ 0 → ⊥) → upper rd hw p ≡ Movk rd hw p ∷ []
+unfolding upper
+upper-some rd hw p e = rw (ne-eqb p 0 e)
+
+cond-most : (b : Bool) (f : Form) → length (cond b [] (f ∷ [])) ≤ 1
+cond-most true f = omega arith
+cond-most false f = omega arith
+
+upper-most : (rd hw p : ℕ) → length (upper rd hw p) ≤ 1
+unfolding upper
+upper-most rd hw p = cond-most (eqb p 0) (Movk rd hw p)
+
+-- the groups of a constant, and how many words they are
+abbrev pub parts : ℕ → ℕ → List (List Form)
+parts rd v =
+    (Movz rd 0 (v % 65536) ∷ []) ∷ upper rd 1 (halfword 1 v) ∷ upper rd 2 (halfword 2 v) ∷ upper rd 3 (halfword 3 v) ∷ []
+
+constant-parts : (rd v : ℕ) → constant rd v ≡ flatten (parts rd v)
+unfolding constant flatten
+constant-parts rd v = rw (append-nil (upper rd 3 (halfword 3 v)))
+
+pub constant-length : (rd v a b c : ℕ) → length (upper rd 1 (halfword 1 v)) ≡ a → length (upper rd 2 (halfword 2 v)) ≡ b
+    → length (upper rd 3 (halfword 3 v)) ≡ c → length (constant rd v) ≡ 1 + a + b + c
+unfolding constant
+constant-length rd v a b c e f g = simp (length-append, e, f, g) (omega arith)
+
+-- a constant is 1 to 4 words
+pub constant-most : (rd v : ℕ) → length (constant rd v) ≤ 4
+constant-most rd v =
+    let a = upper-most rd 1 (halfword 1 v) in
+    let b = upper-most rd 2 (halfword 2 v) in
+    let c = upper-most rd 3 (halfword 3 v) in
+    omega (arith, constant-length rd v _ _ _ refl refl refl)
+
+pub constant-least : (rd v : ℕ) → 1 ≤ length (constant rd v)
+constant-least rd v = omega (arith, constant-length rd v _ _ _ refl refl refl)
+
+-- a constant that fits is its parts, one after the other
+pub constant-one : (h : List ℕ) (rd v : ℕ) → length h + length (constant rd v) ≤ max-words
+    → emitted-all h (parts rd v) ≡ emitted h (encoded (constant rd v))
+constant-one h rd v f = rw constant-parts (emitted-all-one h (parts rd v) (rw constant-parts at f))

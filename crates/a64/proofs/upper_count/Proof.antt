@@ -1,0 +1,15 @@
+use borrow.Author.Needs.{needs}
+use Prim.Native.Nat.{ℕ}
+use mathlib.Core.Path.{ap}
+use mathlib.Core.List.{List}
+use lib.ListN.{length}
+use Rattle.a64.proofs.Emission.{upper-none, upper-some}
+use Rattle.a64.proofs.upper_count.Statement.{statement}
+use Rattle.a64.proofs.upper_count.Tie as tie
+
+pub upper-count-spec : {M : Type 1} → statement M
+upper-count-spec =
+    tie.close
+    (tie.spec
+    (λ c. (search needs, λ rd hw. ap length (upper-none rd hw _ (c .if1 .taken))))
+    (λ c. (search needs, λ rd hw. ap length (upper-some rd hw _ (c .if1 .left)))))
