@@ -218,4 +218,51 @@ mod tests {
         assert_eq!(a64_run(&[], 0, &mut state, 9, &mut memory, u64::MAX - 15), end);
         assert_eq!((state.nzcv, memory), (15, [9; 16]));
     }
+
+    /// The 24 forms: fixed bits and their values.
+    const FORMS: [(u32, u32); 24] = [
+        (0xFFC0_0000, 0xF940_0000), // LDR
+        (0xFFC0_0000, 0xF900_0000), // STR
+        (0xFFE0_FC00, 0x8B00_0000), // ADD
+        (0xFFE0_FC00, 0xCB00_0000), // SUB
+        (0xFFE0_FC00, 0x8A00_0000), // AND
+        (0xFFE0_FC00, 0xAA00_0000), // ORR
+        (0xFFE0_FC00, 0xCA00_0000), // EOR
+        (0xFFE0_FC00, 0x9AC0_2000), // LSLV
+        (0xFFE0_FC00, 0x9AC0_2400), // LSRV
+        (0xFFE0_FC00, 0x9AC0_2800), // ASRV
+        (0xFFE0_FC00, 0x9B00_7C00), // MUL
+        (0xFFE0_FC00, 0x9B40_7C00), // SMULH
+        (0xFFE0_FC00, 0x9BC0_7C00), // UMULH
+        (0xFFE0_FC00, 0x9AC0_0800), // UDIV
+        (0xFFE0_FC00, 0x9AC0_0C00), // SDIV
+        (0xFFE0_FC1F, 0xEB00_001F), // CMP
+        (0xFFE0_0C00, 0x9A80_0000), // CSEL
+        (0xFFFF_FC00, 0x9340_7C00), // SXTW
+        (0xFFC0_03FF, 0x9100_03FF), // ADD SP
+        (0xFFC0_03FF, 0xD100_03FF), // SUB SP
+        (0xFF80_0000, 0xD280_0000), // MOVZ
+        (0xFF80_0000, 0xF280_0000), // MOVK
+        (0xFFFF_FC1F, 0xD63F_0000), // BLR
+        (0xFFFF_FFFF, 0xD65F_03C0), // RET
+    ];
+
+    /// Each form with many fields, and the words one or two bits away.
+    #[test]
+    fn readable_words_are_the_forms() {
+        let mut fields = 1_u32;
+        for (mask, value) in FORMS {
+            for _ in 0..100 {
+                fields = fields.wrapping_mul(1_664_525).wrapping_add(1_013_904_223);
+                let word = value | (fields ^ fields >> 16) & !mask;
+                for (i, j) in (0..32).flat_map(|i| (0..33).map(move |j| (i, j))) {
+                    let word = word ^ 1 << i ^ (1_u64 << j) as u32;
+                    let mut state = A64State { x: [0; 31], sp: 0, nzcv: 0 };
+                    let answer = a64_run(&word.to_le_bytes(), 0, &mut state, 1, &mut [], 0);
+                    let readable = FORMS.iter().any(|&(mask, value)| word & mask == value);
+                    assert_eq!(answer.end != UNREADABLE, readable, "{word:08x}");
+                }
+            }
+        }
+    }
 }
