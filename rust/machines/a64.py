@@ -120,7 +120,9 @@ def anywhere():
 
 
 def single(word, inputs, sp=None, nzcv=None, memory=None):
-    tail = [rng.pick((0, 0xD65F_03C0, 0xF900_0000, 0xD280_0020))] if word.target is not None and rng.below(4) == 0 else []
+    tail = []
+    if word.target is not None and rng.below(4) == 0:
+        tail = [rng.pick((0, 0xD65F_03C0, 0xF900_0000, 0xD280_0020))]
     cases.append(Case([word], inputs, rng.value() if sp is None else sp,
                       rng.below(16) if nzcv is None else nzcv, memory or Memory(), tail, anywhere()))
 

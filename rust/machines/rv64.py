@@ -116,8 +116,8 @@ def branch(kind, rs1, rs2, offset):
     return word(kind, high << 25 | rs2 << 20 | rs1 << 15 | BRANCH[kind] << 12 | low << 7 | 0x63, offset=offset)
 
 
-def fence(fields):
-    return word("fence", fields << 20 | 0x0F)
+def fence(fields, rs1=0, rd=0):
+    return word("fence", fields << 20 | rs1 << 15 | rd << 7 | 0x0F)
 
 
 def fence_i(fields, rs1, rd):
@@ -228,6 +228,13 @@ for kind in ("sll", "srl", "sra", "sllw", "srlw", "sraw"):
             rd, rs1, rs2 = three()
             single(op(kind, rd, rs1, rs2), {rs1: a, rs2: shamt})
 
+for kind, least in [(k, 2**63) for k in ("div", "divu", "rem", "remu")] + [
+        (k, v) for k in ("divw", "divuw", "remw", "remuw") for v in (2**31, M64 - 2**31 + 1)]:
+    for a, b in ((least, M64), (least, 0), (rng.next(), 0), (least + 1, M64), (least - 1, M64), (least, 1)):
+        rd, rs1, rs2 = three()
+        for to in (rd, rs1, rs2, 0):
+            single(op(kind, to, rs1, rs2), {rs1: a, rs2: b})
+
 IMM12 = [0, 1, -1, 2047, -2048]
 for kind in OP_IMM:
     for imm in IMM12:
@@ -263,7 +270,8 @@ for kind in UPPER:
     for _ in range(60):
         single(upper(kind, rng.below(32), rng.below(2**20)), {})
 
-for offset in [4, 6, 8, -2, -4, 2046, 2048, 4096, -4096, 2**20 - 2, -2**20, 2**19, -2**19] + [2**k for k in range(3, 20)]:
+for offset in [4, 6, 8, -2, -4, 2046, 2048, 4096, -4096, 2**20 - 2, -2**20, 2**19, -2**19,
+               *(2**k for k in range(3, 20))]:
     for rd in (0, 1, rng.between(2, 31)):
         single(jal(rd, offset), {})
 for _ in range(160):
@@ -303,6 +311,11 @@ for pred in range(16):
 single(fence(0x833), {})  # FENCE.TSO
 for _ in range(24):
     single(fence_i(0, 0, 0), values(X[:1]))
+for _ in range(40):
+    # Reserved fields, which the ISA has ignored.
+    rs1, rd = rng.between(1, 31), rng.between(1, 31)
+    single(fence(rng.below(4096), rs1, rd), {rs1: rng.value()})
+    single(fence_i(rng.below(4096), rs1, rd), {rs1: rng.value()})
 
 for imm in range(4, 1024, 4):
     single(c_addi4spn(rng.pick(MARKED), imm), {2: rng.value()})
@@ -517,9 +530,12 @@ def record(case, outcome):
 
 
 def check_kinds():
-    """binutils' mnemonic for each instruction must be the kind. Some hints have names of their own there."""
+    """binutils' mnemonic for each instruction must be the kind.
+
+    Some hints have names of their own there, and FENCE and FENCE.I with reserved fields none.
+    """
     same = {("fence.tso", "fence"), ("c.addi", "c.nop"), ("c.srli64", "c.srli"), ("c.srai64", "c.srai"),
-            ("c.slli64", "c.slli")}
+            ("c.slli64", "c.slli"), (".4byte", "fence"), (".4byte", "fence.i")}
     instrs = [i for case in cases for i in case.run]
     found = disassemble("riscv64-linux-gnu-objdump", ["-m", "riscv:rv64", "-M", "no-aliases"],
                         b"".join(i.code for i in instrs))

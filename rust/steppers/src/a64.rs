@@ -103,8 +103,8 @@ fn step(
         },
         0x9B => match low {
             0x00_7C00 => a.wrapping_mul(b),
-            0x40_7C00 => (i128::from(a as i64) * i128::from(b as i64) >> 64) as u64,
-            0xC0_7C00 => (u128::from(a) * u128::from(b) >> 64) as u64,
+            0x40_7C00 => ((i128::from(a as i64) * i128::from(b as i64)) >> 64) as u64,
+            0xC0_7C00 => ((u128::from(a) * u128::from(b)) >> 64) as u64,
             _ => return Err(UNREADABLE),
         },
         // SXTW
@@ -131,7 +131,7 @@ fn step(
         }
         // LDR, STR
         0xF9 if word & 0x80_0000 == 0 => {
-            if rn == 31 && state.sp % 16 != 0 {
+            if rn == 31 && !state.sp.is_multiple_of(16) {
                 return Err(FAULT);
             }
             let from = if rn == 31 { state.sp } else { a };
@@ -158,7 +158,7 @@ fn step(
 /// The eight bytes at an address that is a multiple of 8, if all lie in memory.
 #[inline(always)]
 fn slot(memory: &mut [u8], address: u64, base: u64) -> Option<&mut [u8; 8]> {
-    if address % 8 != 0 {
+    if !address.is_multiple_of(8) {
         return None;
     }
     let offset = usize::try_from(address.wrapping_sub(base)).ok()?;
