@@ -1,0 +1,268 @@
+//! A64 run: the 24 forms of document 01 by the Arm Architecture Reference Manual.
+
+#[derive(Clone, Copy, Debug, PartialEq, Eq)]
+pub struct A64State {
+    pub x: [u64; 31],
+    pub sp: u64,
+    /// The low four bits count, N highest.
+    pub nzcv: u64,
+}
+
+#[derive(Clone, Copy, Debug, PartialEq, Eq)]
+pub struct A64Answer {
+    pub refusal: u32,
+    pub end: u32,
+    pub steps: u64,
+}
+
+pub const OFF_THE_END: u32 = 1;
+pub const SPENT: u32 = 2;
+pub const UNREADABLE: u32 = 3;
+pub const FAULT: u32 = 4;
+pub const RETURNED: u32 = 5;
+pub const CALLED: u32 = 6;
+
+/// Runs the block from word 0. `address` is that of word 0, `base` that of the memory's first byte.
+pub fn a64_run(
+    block: &[u8],
+    address: u64,
+    state: &mut A64State,
+    budget: u64,
+    memory: &mut [u8],
+    base: u64,
+) -> A64Answer {
+    let (words, rest) = block.as_chunks::<4>();
+    if !rest.is_empty() {
+        return A64Answer { refusal: 10, end: 0, steps: 0 };
+    }
+    if u128::from(base) + memory.len() as u128 > 1 << 64 {
+        return A64Answer { refusal: 11, end: 0, steps: 0 };
+    }
+
+    state.nzcv &= 15;
+    let mut steps = 0;
+    let mut end = OFF_THE_END;
+    for word in words {
+        if steps == budget {
+            end = SPENT;
+            break;
+        }
+        let next = address.wrapping_add(4 * (steps + 1));
+        match step(u32::from_le_bytes(*word), next, state, memory, base) {
+            Ok(()) => steps += 1,
+            Err(stop) => {
+                end = stop;
+                steps += u64::from(stop >= RETURNED);
+                break;
+            }
+        }
+    }
+    A64Answer { refusal: 0, end, steps }
+}
+
+/// One word, or why the run ends at it.
+#[inline(always)]
+fn step(
+    word: u32,
+    next: u64,
+    state: &mut A64State,
+    memory: &mut [u8],
+    base: u64,
+) -> Result<(), u32> {
+    let rd = (word & 31) as usize;
+    let rn = (word >> 5 & 31) as usize;
+    let rm = (word >> 16 & 31) as usize;
+    let imm12 = word >> 10 & 0xFFF;
+    // Register 31 is past the end of the 31: it reads 0 and takes nothing.
+    let read = |r: usize| state.x.get(r).copied().unwrap_or(0);
+    let (a, b) = (read(rn), read(rm));
+    let low = word & 0x00E0_FC00; // all but the registers of a three-register word
+
+    let value = match word >> 24 {
+        0x8B if low == 0 => a.wrapping_add(b),
+        0xCB if low == 0 => a.wrapping_sub(b),
+        0x8A if low == 0 => a & b,
+        0xAA if low == 0 => a | b,
+        0xCA if low == 0 => a ^ b,
+        0x9A => match low {
+            0xC0_2000 => a << (b & 63),
+            0xC0_2400 => a >> (b & 63),
+            0xC0_2800 => (a as i64 >> (b & 63)) as u64,
+            0xC0_0800 => a.checked_div(b).unwrap_or(0),
+            0xC0_0C00 if b == 0 => 0,
+            0xC0_0C00 => (a as i64).wrapping_div(b as i64) as u64,
+            // CSEL
+            _ if low & 0xE0_0C00 == 0x80_0000 => {
+                if holds(word >> 12 & 15, state.nzcv) {
+                    a
+                } else {
+                    b
+                }
+            }
+            _ => return Err(UNREADABLE),
+        },
+        0x9B => match low {
+            0x00_7C00 => a.wrapping_mul(b),
+            0x40_7C00 => ((i128::from(a as i64) * i128::from(b as i64)) >> 64) as u64,
+            0xC0_7C00 => ((u128::from(a) * u128::from(b)) >> 64) as u64,
+            _ => return Err(UNREADABLE),
+        },
+        // SXTW
+        0x93 if word & 0xFF_FC00 == 0x40_7C00 => a as i32 as u64,
+        // MOVZ, MOVK
+        0xD2 if word & 0x80_0000 != 0 => u64::from(word >> 5 & 0xFFFF) << (word >> 17 & 0x30),
+        0xF2 if word & 0x80_0000 != 0 => {
+            let shift = word >> 17 & 0x30;
+            read(rd) & !(0xFFFF << shift) | u64::from(word >> 5 & 0xFFFF) << shift
+        }
+        // CMP
+        0xEB if low == 0 && rd == 31 => {
+            state.nzcv = compare(a, b);
+            return Ok(());
+        }
+        // ADD SP, SUB SP
+        0x91 if word & 0xC0_03FF == 0x03FF => {
+            state.sp = state.sp.wrapping_add(u64::from(imm12));
+            return Ok(());
+        }
+        0xD1 if word & 0xC0_03FF == 0x03FF => {
+            state.sp = state.sp.wrapping_sub(u64::from(imm12));
+            return Ok(());
+        }
+        // LDR, STR
+        0xF9 if word & 0x80_0000 == 0 => {
+            if rn == 31 && !state.sp.is_multiple_of(16) {
+                return Err(FAULT);
+            }
+            let from = if rn == 31 { state.sp } else { a };
+            let slot = slot(memory, from.wrapping_add(u64::from(imm12) * 8), base).ok_or(FAULT)?;
+            if word & 0x40_0000 == 0 {
+                *slot = read(rd).to_le_bytes();
+                return Ok(());
+            }
+            u64::from_le_bytes(*slot)
+        }
+        0xD6 if word == 0xD65F_03C0 => return Err(RETURNED),
+        0xD6 if word & 0xFF_FC1F == 0x3F_0000 => {
+            state.x[30] = next;
+            return Err(CALLED);
+        }
+        _ => return Err(UNREADABLE),
+    };
+    if let Some(x) = state.x.get_mut(rd) {
+        *x = value;
+    }
+    Ok(())
+}
+
+/// The eight bytes at an address that is a multiple of 8, if all lie in memory.
+#[inline(always)]
+fn slot(memory: &mut [u8], address: u64, base: u64) -> Option<&mut [u8; 8]> {
+    if !address.is_multiple_of(8) {
+        return None;
+    }
+    let offset = usize::try_from(address.wrapping_sub(base)).ok()?;
+    memory.get_mut(offset..)?.first_chunk_mut()
+}
+
+/// The flags of `a - b`, as AddWithCarry(a, NOT(b), 1) gives them.
+#[inline(always)]
+fn compare(a: u64, b: u64) -> u64 {
+    let (result, overflow) = (a as i64).overflowing_sub(b as i64);
+    u64::from(result < 0) << 3
+        | u64::from(result == 0) << 2
+        | u64::from(a >= b) << 1
+        | u64::from(overflow)
+}
+
+/// ConditionHolds: 14 and 15 always do.
+#[inline(always)]
+fn holds(cond: u32, nzcv: u64) -> bool {
+    let (n, z, c, v) = (nzcv & 8 != 0, nzcv & 4 != 0, nzcv & 2 != 0, nzcv & 1 != 0);
+    let result = match cond >> 1 {
+        0 => z,
+        1 => c,
+        2 => n,
+        3 => v,
+        4 => c && !z,
+        5 => n == v,
+        6 => n == v && !z,
+        _ => return true,
+    };
+    result != (cond & 1 == 1)
+}
+
+#[cfg(test)]
+mod tests {
+    use super::*;
+
+    #[test]
+    fn refusals_change_nothing() {
+        let before = A64State { x: [7; 31], sp: 3, nzcv: u64::MAX };
+        let refused = |refusal| A64Answer { refusal, end: 0, steps: 0 };
+        for length in [1, 2, 3, 5, 7] {
+            let (mut state, mut memory) = (before, [9; 16]);
+            assert_eq!(
+                a64_run(&vec![0; length], 0, &mut state, 9, &mut memory, u64::MAX - 14),
+                refused(10)
+            );
+            assert_eq!((state, memory), (before, [9; 16]));
+        }
+        for base in [u64::MAX - 14, u64::MAX] {
+            let (mut state, mut memory) = (before, [9; 16]);
+            assert_eq!(a64_run(&[], 0, &mut state, 9, &mut memory, base), refused(11));
+            assert_eq!((state, memory), (before, [9; 16]));
+        }
+        let (mut state, mut memory) = (before, [9; 16]);
+        let end = A64Answer { refusal: 0, end: OFF_THE_END, steps: 0 };
+        assert_eq!(a64_run(&[], 0, &mut state, 9, &mut memory, u64::MAX - 15), end);
+        assert_eq!((state.nzcv, memory), (15, [9; 16]));
+    }
+
+    /// The 24 forms: fixed bits and their values.
+    const FORMS: [(u32, u32); 24] = [
+        (0xFFC0_0000, 0xF940_0000), // LDR
+        (0xFFC0_0000, 0xF900_0000), // STR
+        (0xFFE0_FC00, 0x8B00_0000), // ADD
+        (0xFFE0_FC00, 0xCB00_0000), // SUB
+        (0xFFE0_FC00, 0x8A00_0000), // AND
+        (0xFFE0_FC00, 0xAA00_0000), // ORR
+        (0xFFE0_FC00, 0xCA00_0000), // EOR
+        (0xFFE0_FC00, 0x9AC0_2000), // LSLV
+        (0xFFE0_FC00, 0x9AC0_2400), // LSRV
+        (0xFFE0_FC00, 0x9AC0_2800), // ASRV
+        (0xFFE0_FC00, 0x9B00_7C00), // MUL
+        (0xFFE0_FC00, 0x9B40_7C00), // SMULH
+        (0xFFE0_FC00, 0x9BC0_7C00), // UMULH
+        (0xFFE0_FC00, 0x9AC0_0800), // UDIV
+        (0xFFE0_FC00, 0x9AC0_0C00), // SDIV
+        (0xFFE0_FC1F, 0xEB00_001F), // CMP
+        (0xFFE0_0C00, 0x9A80_0000), // CSEL
+        (0xFFFF_FC00, 0x9340_7C00), // SXTW
+        (0xFFC0_03FF, 0x9100_03FF), // ADD SP
+        (0xFFC0_03FF, 0xD100_03FF), // SUB SP
+        (0xFF80_0000, 0xD280_0000), // MOVZ
+        (0xFF80_0000, 0xF280_0000), // MOVK
+        (0xFFFF_FC1F, 0xD63F_0000), // BLR
+        (0xFFFF_FFFF, 0xD65F_03C0), // RET
+    ];
+
+    /// Each form with many fields, and the words one or two bits away.
+    #[test]
+    fn readable_words_are_the_forms() {
+        let mut fields = 1_u32;
+        for (mask, value) in FORMS {
+            for _ in 0..100 {
+                fields = fields.wrapping_mul(1_664_525).wrapping_add(1_013_904_223);
+                let word = value | (fields ^ fields >> 16) & !mask;
+                for (i, j) in (0..32).flat_map(|i| (0..33).map(move |j| (i, j))) {
+                    let word = word ^ 1 << i ^ (1_u64 << j) as u32;
+                    let mut state = A64State { x: [0; 31], sp: 0, nzcv: 0 };
+                    let answer = a64_run(&word.to_le_bytes(), 0, &mut state, 1, &mut [], 0);
+                    let readable = FORMS.iter().any(|&(mask, value)| word & mask == value);
+                    assert_eq!(answer.end != UNREADABLE, readable, "{word:08x}");
+                }
+            }
+        }
+    }
+}

@@ -1,0 +1,59 @@
+//! The recorded cases through the steppers: no difference.
+
+use steppers::records::{a64_cases, rv64_cases, A64Case};
+use steppers::{a64_run, rv64_run};
+
+const RV64: &[u8] = include_bytes!("../../machines/recorded/rv64.bin");
+const A64: &[u8] = include_bytes!("../../machines/recorded/a64.bin");
+const A64_RULES: &[u8] = include_bytes!("../../machines/recorded/a64_rules.bin");
+
+#[test]
+fn rv64() {
+    let cases = rv64_cases(RV64);
+    assert!(cases.len() >= 20_000);
+    let mut differences = 0;
+    for case in &cases {
+        let mut registers = case.before;
+        let answer = rv64_run(&case.guest, case.pc, case.limit, false, &mut registers);
+        if (answer, registers) != (case.answer, case.after) {
+            differences += 1;
+            println!(
+                "{:02x?} at {:x}: {answer:x?}, recorded {:x?}",
+                case.guest, case.pc, case.answer
+            );
+        }
+    }
+    assert_eq!(differences, 0);
+}
+
+fn replay(cases: &[A64Case]) {
+    let mut differences = 0;
+    for case in cases {
+        let mut state = case.before;
+        let mut memory = case.memory_before.clone();
+        let answer =
+            a64_run(&case.block, case.address, &mut state, case.budget, &mut memory, case.base);
+        if (answer, state) != (case.answer, case.after) || memory != case.memory_after {
+            differences += 1;
+            println!(
+                "{:02x?} at {:x}: {answer:x?}, recorded {:x?}",
+                case.block, case.address, case.answer
+            );
+        }
+    }
+    assert_eq!(differences, 0);
+}
+
+#[test]
+fn a64() {
+    let cases = a64_cases(A64);
+    assert!(cases.len() >= 20_000);
+    replay(&cases);
+}
+
+#[test]
+fn a64_rules() {
+    let cases = a64_cases(A64_RULES);
+    assert!(cases.len() >= 400);
+    replay(&cases);
+}
