@@ -47,6 +47,10 @@ emitted-all-fits h (g ∷ gs) f =
     let k : length (h ++ encoded g) ≡ length h + length (encoded g) = length-append h (encoded g) in
     rw (emitted-fits h (encoded g) (omega arith), emitted-all-fits (h ++ encoded g) gs (omega arith), append-assoc, map-append)
 
+-- the words of several calls on an emitter that holds nothing
+pub emitted-all-new : (h : List ℕ) (gs : List (List Form)) → h ≡ [] → length (flatten gs) ≤ max-words → emitted-all h gs ≡ encoded (flatten gs)
+emitted-all-new h gs e f = rw e (emitted-all-fits [] gs (omega arith))
+
 -- calls after calls
 pub emitted-all-append : (h : List ℕ) (gs bs : List (List Form)) → emitted-all h (gs ++ bs) ≡ emitted-all (emitted-all h gs) bs
 emitted-all-append h [] bs = refl
