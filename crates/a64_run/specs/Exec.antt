@@ -3,7 +3,7 @@
 use mathlib.Core.Path.{_≡_}
 use mathlib.Core.Bool.{Bool, true, false, cond, not, xor, _&&_, _||_}
 use mathlib.Core.List.{List}
-use Prim.Native.Nat.{ℕ, _+_, _-_, _*_, _/_, _%_, _^_}
+use Prim.Native.Nat.{ℕ, _+_, _-_, _*_, _/_, _%_, _^_, _≤_}
 use lib.Dec.{leb, eqb}
 use lib.ListN.{length, getD, set}
 use Rattle.word.specs.Word.{wrap, add, mul, and64, or64, xor64, complement, sign, sext, bias, shl, shr, asr, udiv, sdiv, mulh, mulhu}
@@ -15,6 +15,7 @@ use Rattle.a64.specs.declared.Form.the-variants.{DataProcessing, Ldr, Str, Movz
 use Rattle.a64_run.specs.declared.state.Flags.{Flags}
 use Rattle.a64_run.specs.declared.exec.Outcome.{Outcome}
 use Rattle.a64_run.specs.declared.exec.Access.{Access}
+use Rattle.a64_run.specs.declared.exec.Access.the-variants.{At, Fault}
 use Rattle.a64_run.specs.declared.exec.Stepped.{Stepped}
 
 -- ---- the state
@@ -55,7 +56,7 @@ carry-flags x y carry =
       n = sign (carried x y carry);
       z = eqb (carried x y carry) 0;
       c = not (eqb (carried x y carry) (x + y + carry));
-      v = not (eqb (bias (carried x y carry) + 2 ^ 63) (bias x + bias y + carry))
+      v = not (eqb (bias (carried x y carry) + 2 ^ 63) (bias x + bias y + carry));
     }
 
 -- x - y is x + NOT y + 1
@@ -146,3 +147,25 @@ exec (SubSp imm) s = next (with-sp s (difference (s .sp) imm))
 exec (Blr rn) s = after Outcome.Call s
 exec Ret s = after Outcome.Return s
 exec Form.Unreadable s = after Outcome.Unreadable s
+
+-- ---- what the functions promise
+
+abbrev pub machine : List ℕ → ℕ → Flags → ℕ → List ℕ → State
+machine x sp flags base mem = record { x = x; sp = sp; flags = flags; base = base; mem = mem }
+
+-- a lies within len bytes from base on, at i
+abbrev pub Within : ℕ → ℕ → ℕ → Access → Type 0
+Within a base len (At i) =
+    (leb base a ≡ true) × (leb (a + 8) (base + len) ≡ true) × (eqb (a % 8) 0 ≡ true) × (i ≡ a - base) × (i + 8 ≤ len)
+Within a base len Fault = (leb base a && leb (a + 8) (base + len)) && eqb (a % 8) 0 ≡ false
+
+-- an access through register n
+abbrev pub Reached : State → ℕ → ℕ → Access → Type 0
+Reached s n imm (At i) = (reaches s n (address s n imm) ≡ true) × (i ≡ address s n imm - s .base) × (i + 8 ≤ length (s .mem))
+Reached s n imm Fault = reaches s n (address s n imm) ≡ false
+
+-- the form's effect, and the sizes of the lists
+pub record Executed (f : Form) (s : State) (r : Stepped) (x : List ℕ) (m : List ℕ) : Type 0 where
+  pub goes : exec f s ≡ after (r .outcome) (machine x (r .sp) (r .flags) (s .base) m)
+  pub registers : length x ≡ 31
+  pub size : length m ≡ length (s .mem)

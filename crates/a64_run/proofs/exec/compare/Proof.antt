@@ -14,7 +14,7 @@ returns c =
     let hx : a .x < 2 ^ 64 = search needs in
     let hy : a .y < 2 ^ 64 = search needs in
     let d : c .before .sub .result ≡ difference (a .x) (a .y) =
-        c .before .sub .ensures ∙ sym (difference-sub (a .x) (a .y) hy) in
+    c .before .sub .ensures ∙ sym (difference-sub (a .x) (a .y) hy) in
     rw (z-law (a .x) (a .y) hx hy, c-law (a .x) (a .y) hx hy, v-law (a .x) (a .y) hx hy, ← d, ← c .slt .ensures)
 
 pub compare-spec : {M : Type 1} → statement M
