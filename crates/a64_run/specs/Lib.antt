@@ -1,2 +1,3 @@
 pub mod Exec
 pub mod Flags
+pub mod Run

@@ -1,0 +1,88 @@
+-- The run of a block's words, and the operation A64 run (document 01). Definitions only.
+use mathlib.Core.Bool.{cond, not}
+use mathlib.Core.List.{List, [], _∷_}
+use Prim.Native.Nat.{ℕ, zero, suc, _+_, _%_, _^_}
+use lib.Dec.{eqb, ltb}
+use lib.ListN.{length}
+use Rattle.word.specs.Word.{wrap}
+use Rattle.le.specs.Le.{number}
+use Rattle.a64.specs.Forms.{decode}
+use Rattle.a64_run.specs.declared.state.A64State.{A64State}
+use Rattle.a64_run.specs.declared.exec.Outcome.{Outcome}
+use Rattle.a64_run.specs.declared.run.End.{End}
+use Rattle.a64_run.specs.declared.run.Answer.{Answer}
+use Rattle.a64_run.specs.Exec.{State, machine, with-reg, After, exec}
+
+-- the words of a block's bytes, each the lowest byte first
+unfoldable pub words : List ℕ → List ℕ
+unfolding number
+words (a ∷ b ∷ c ∷ d ∷ bs) = number (a ∷ b ∷ c ∷ d ∷ []) ∷ words bs
+words (a ∷ b ∷ c ∷ []) = []
+words (a ∷ b ∷ []) = []
+words (a ∷ []) = []
+words [] = []
+
+pub record Ran : Type 0 where
+  pub end : End
+  pub steps : ℕ
+  pub state : State
+
+abbrev pub ran : End → ℕ → State → Ran
+ran e k s = record { end = e; steps = k; state = s }
+
+-- behind the word at the address at, of which k were done before: `go` is the run of the words behind it
+unfoldable pub onward : After → ℕ → ℕ → (State → Ran) → Ran
+onward a at k go = by (a .outcome) (a .state)
+  where
+    by : Outcome → State → Ran
+    by Outcome.Next s = go s
+    by Outcome.Fault s = ran End.Fault k s
+    by Outcome.Unreadable s = ran End.Unreadable k s
+    by Outcome.Return s = ran End.Returned (suc k) s
+    by Outcome.Call s = ran End.Called (suc k) (with-reg s 30 (wrap (at + 4)))
+
+-- words, the address of the first, the budget left, the steps done. Before each word: off the end, spent, then the word
+unfoldable pub run : List ℕ → ℕ → ℕ → ℕ → State → Ran
+unfolding onward
+run [] at budget k s = ran End.OffEnd k s
+run (w ∷ ws) at zero k s = ran End.Spent k s
+run (w ∷ ws) at (suc budget) k s = onward (exec (decode w) s) at k (run ws (at + 4) budget (suc k))
+
+-- ---- the operation
+
+abbrev pub endNumber : End → ℕ
+endNumber End.OffEnd = 1
+endNumber End.Spent = 2
+endNumber End.Unreadable = 3
+endNumber End.Fault = 4
+endNumber End.Returned = 5
+endNumber End.Called = 6
+
+-- 10: block length not a multiple of 4; 11: memory base plus memory length exceeds 2 ^ 64; 0: accepted
+unfoldable pub refusal : List ℕ → ℕ → List ℕ → ℕ
+refusal block base mem = cond (not (eqb (length block % 4) 0)) 10 (cond (ltb (2 ^ 64) (base + length mem)) 11 0)
+
+abbrev pub at-entry : A64State → ℕ → List ℕ → State
+at-entry s base mem = machine (s .x) (s .sp) (s .flags) base mem
+
+-- the state without memory
+abbrev pub registers : State → A64State
+registers s = record { x = s .x; sp = s .sp; flags = s .flags }
+
+abbrev pub whole : List ℕ → ℕ → A64State → ℕ → List ℕ → ℕ → Ran
+whole block address s budget mem base = run (words block) address budget 0 (at-entry s base mem)
+
+abbrev pub accepted : Ran → Answer
+accepted r = record { refusal = 0; end = endNumber (r .end); steps = r .steps; state = registers (r .state) }
+
+abbrev pub refused : ℕ → A64State → Answer
+refused n s = record { refusal = n; end = 0; steps = 0; state = s }
+
+-- the answer, and the memory bytes afterwards; a refusal leaves state and memory
+abbrev pub answer : List ℕ → ℕ → A64State → ℕ → List ℕ → ℕ → Answer
+answer block address s budget mem base =
+    cond (eqb (refusal block base mem) 0) (accepted (whole block address s budget mem base)) (refused (refusal block base mem) s)
+
+abbrev pub memory-after : List ℕ → ℕ → A64State → ℕ → List ℕ → ℕ → List ℕ
+memory-after block address s budget mem base =
+    cond (eqb (refusal block base mem) 0) (whole block address s budget mem base .state .mem) mem

@@ -1,0 +1,93 @@
+// The run of a block's words, and the operation A64 run.
+ghost use mathlib.Core.Path.{_≡_};
+ghost use Prim.Native.Nat.{_+_, _*_, _≤_};
+ghost use lib.ListN.{length};
+ghost use Rattle.le.specs.Le.{load};
+ghost use Rattle.a64.specs.Forms.{decode};
+ghost use Rattle.a64_run.specs.Exec.{machine, Executed};
+ghost use Rattle.a64_run.specs.Run as R;
+use crate::exec;
+use crate::exec::Outcome;
+use crate::exec::Stepped;
+use crate::state::A64State;
+use crate::state::Flags;
+
+// How a run ended.
+pub enum End {
+    OffEnd,
+    Spent,
+    Unreadable,
+    Fault,
+    Returned,
+    Called,
+}
+
+pub struct Ran {
+    pub end: End,
+    pub steps: u64,
+    pub state: A64State,
+}
+
+// The refusal, or 0 and document 01's number of the end, the steps done and the state after them.
+pub struct Answer {
+    pub refusal: u32,
+    pub end: u32,
+    pub steps: u64,
+    pub state: A64State,
+}
+
+fn end_number(e: End) -> u32
+    ensures { λ r. ⌜ r ≡ R.endNumber e ⌝ }
+{
+    match e {
+        End::OffEnd => 1,
+        End::Spent => 2,
+        End::Unreadable => 3,
+        End::Fault => 4,
+        End::Returned => 5,
+        End::Called => 6,
+    }
+}
+
+// Word i of the block, read and executed.
+fn step(x: &mut [u64; 31], sp: u64, flags: Flags, block: &[u8], i: usize, memory: &mut [u8], base: u64) -> Stepped
+    requires { ⌜ (length (now x) ≡ 31) × (4 * i + 4 ≤ length (now block)) ⌝ }
+    ensures { λ r. ⌜ Executed (decode (load 4 (now (block .entry)) (4 * i))) (machine (now (x .entry)) sp flags base (now (memory .entry))) r (now (x .exit)) (now (memory .exit)) ⌝ }
+{
+    let w = le::load32(block, 4 * i);
+    exec::exec(x, sp, flags, a64::decode(w), memory, base)
+}
+
+// Runs the block's words from the first until one ends the run.
+fn run_words(block: &[u8], address: u64, state: A64State, budget: u64, memory: &mut [u8], base: u64) -> Ran
+    ensures { λ r. ⌜ R.ran (r .end) (r .steps) (R.at-entry (r .state) base (now (memory .exit))) ≡ R.whole (now (block .entry)) address state budget (now (memory .entry)) base ⌝ }
+{
+    let count = block.len() / 4;
+    let mut at = state;
+    let mut i = 0;
+    while i < count {
+        let k = i as u64;
+        if k == budget {
+            return Ran { end: End::Spent, steps: k, state: at };
+        }
+        let sp = at.sp;
+        let flags = at.flags;
+        let r = step(&mut at.x, sp, flags, block, i, memory, base);
+        let flags = r.flags;
+        at.sp = r.sp;
+        at.flags = flags;
+        let outcome = r.outcome;
+        match outcome {
+            Outcome::Next => {}
+            Outcome::Fault => return Ran { end: End::Fault, steps: k, state: at },
+            Outcome::Unreadable => return Ran { end: End::Unreadable, steps: k, state: at },
+            Outcome::Return => return Ran { end: End::Returned, steps: k + 1, state: at },
+            Outcome::Call => {
+                at.x[30] = std::num::wrapping_add_u64(address, 4 * k + 4);
+                return Ran { end: End::Called, steps: k + 1, state: at };
+            }
+        }
+        i += 1;
+    }
+    Ran { end: End::OffEnd, steps: i as u64, state: at }
+}
