@@ -217,23 +217,3 @@ not-quarter w k a b c d e = omega arith
 
 pub not-half : (w k : ℕ) → (w / 2 ^ 21 ≡ k * 2 → ⊥) → (w / 2 ^ 21 ≡ k * 2 + 1 → ⊥) → w / 2 ^ 22 ≡ k → ⊥
 not-half w k a b e = omega arith
-
--- no form but those with three registers has other bits 31 to 21
-pub decode-rest : (w : ℕ) → (w / 2 ^ 23 ≡ 0x1A5 → ⊥) → (w / 2 ^ 23 ≡ 0x1E5 → ⊥) → (w / 2 ^ 22 ≡ 0x3E5 → ⊥) → (w / 2 ^ 22 ≡ 0x3E4 → ⊥)
-    → (w / 2 ^ 22 ≡ 0x244 → ⊥) → (w / 2 ^ 22 ≡ 0x344 → ⊥) → (w / 2 ^ 21 ≡ 0x758 → ⊥) → (w / 2 ^ 21 ≡ 0x4D4 → ⊥) → (w / 2 ^ 21 ≡ 0x49A → ⊥)
-    → (w / 2 ^ 21 ≡ 0x6B1 → ⊥) → (w / 2 ^ 21 ≡ 0x6B2 → ⊥) → decode-op ops w ≡ decode w
-unfolding decode
-decode-rest w movz movk ldr str add sub cmp csel sxtw blr ret =
-    simp (
-      ne-eqb _ _ movz,
-      ne-eqb _ _ movk,
-      ne-eqb _ _ ldr,
-      ne-eqb _ _ str,
-      ne-eqb _ _ add,
-      ne-eqb _ _ sub,
-      ne-eqb _ _ cmp,
-      ne-eqb _ _ csel,
-      ne-eqb _ _ sxtw,
-      ne-eqb _ _ blr,
-      ne-eqb _ _ ret,
-    )
