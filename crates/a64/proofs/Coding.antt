@@ -51,7 +51,8 @@ record Split6 (w t m s n d : ℕ) : Type 0 where
   base : rn w ≡ n
   reg : rd w ≡ d
 
-split6 : (w t m s n d : ℕ) → w ≡ t * 2 ^ 21 + m * 2 ^ 16 + s * 2 ^ 10 + n * 2 ^ 5 + d → m < 32 → s < 64 → n < 32 → d < 32 → Split6 w t m s n d
+split6 : (w t m s n d : ℕ) → w ≡ t * 2 ^ 21 + m * 2 ^ 16 + s * 2 ^ 10 + n * 2 ^ 5 + d → m < 32 → s < 64 → n < 32 → d < 32
+    → Split6 w t m s n d
 split6 w t m s n d e hm hs hn hd =
     record {
       quarter = omega arith;
