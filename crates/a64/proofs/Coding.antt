@@ -51,7 +51,8 @@ record Split6 (w t m s n d : ℕ) : Type 0 where
   base : rn w ≡ n
   reg : rd w ≡ d
 
-split6 : (w t m s n d : ℕ) → w ≡ t * 2 ^ 21 + m * 2 ^ 16 + s * 2 ^ 10 + n * 2 ^ 5 + d → m < 32 → s < 64 → n < 32 → d < 32 → Split6 w t m s n d
+split6 : (w t m s n d : ℕ) → w ≡ t * 2 ^ 21 + m * 2 ^ 16 + s * 2 ^ 10 + n * 2 ^ 5 + d → m < 32 → s < 64 → n < 32 → d < 32
+    → Split6 w t m s n d
 split6 w t m s n d e hm hs hn hd =
     record {
       quarter = omega arith;
@@ -217,23 +218,3 @@ not-quarter w k a b c d e = omega arith
 
 pub not-half : (w k : ℕ) → (w / 2 ^ 21 ≡ k * 2 → ⊥) → (w / 2 ^ 21 ≡ k * 2 + 1 → ⊥) → w / 2 ^ 22 ≡ k → ⊥
 not-half w k a b e = omega arith
-
--- no form but those with three registers has other bits 31 to 21
-pub decode-rest : (w : ℕ) → (w / 2 ^ 23 ≡ 0x1A5 → ⊥) → (w / 2 ^ 23 ≡ 0x1E5 → ⊥) → (w / 2 ^ 22 ≡ 0x3E5 → ⊥) → (w / 2 ^ 22 ≡ 0x3E4 → ⊥)
-    → (w / 2 ^ 22 ≡ 0x244 → ⊥) → (w / 2 ^ 22 ≡ 0x344 → ⊥) → (w / 2 ^ 21 ≡ 0x758 → ⊥) → (w / 2 ^ 21 ≡ 0x4D4 → ⊥) → (w / 2 ^ 21 ≡ 0x49A → ⊥)
-    → (w / 2 ^ 21 ≡ 0x6B1 → ⊥) → (w / 2 ^ 21 ≡ 0x6B2 → ⊥) → decode-op ops w ≡ decode w
-unfolding decode
-decode-rest w movz movk ldr str add sub cmp csel sxtw blr ret =
-    simp (
-      ne-eqb _ _ movz,
-      ne-eqb _ _ movk,
-      ne-eqb _ _ ldr,
-      ne-eqb _ _ str,
-      ne-eqb _ _ add,
-      ne-eqb _ _ sub,
-      ne-eqb _ _ cmp,
-      ne-eqb _ _ csel,
-      ne-eqb _ _ sxtw,
-      ne-eqb _ _ blr,
-      ne-eqb _ _ ret,
-    )

@@ -1,5 +1,6 @@
 -- Laws of `emitted`, `emitted-all` and `constant`: chains of calls, sizes, room. Assumes nothing.
 use Prim.Native.Nat.{ℕ, zero, suc, _+_, _*_, _/_, _%_, _^_, _≤_, _<_, min}
+use native.Mathlib.Nat.{mod-lt}
 use native.Mathlib.Omega.{arith}
 use native.Mathlib.Numerals.{add-one}
 use mathlib.Core.Path.{_≡_, refl, sym, ap, _∙_}
@@ -11,7 +12,8 @@ use lib.Dec.{leb, eqb}
 use borrow.Author.Tests.{le-leb, lt-leb, eq-eqb, ne-eqb}
 use Rattle.a64.specs.declared.Form.{Form}
 use Rattle.a64.specs.declared.Form.the-variants.{Movz, Movk}
-use Rattle.a64.specs.Forms.{encode}
+use Rattle.a64.specs.Forms.{encode, InRange, decode}
+use Rattle.a64.proofs.Coding.{decode-encode}
 use Rattle.a64.specs.Emitter.{max-words, emitted, encoded, emitted-all, halfword, upper, constant, Written, bytes, word-bytes}
 
 -- words that fit are added
@@ -186,3 +188,35 @@ constant-least rd v = omega (arith, constant-length rd v _ _ _ refl refl refl)
 pub constant-one : (h : List ℕ) (rd v : ℕ) → length h + length (constant rd v) ≤ max-words
     → emitted-all h (parts rd v) ≡ emitted h (encoded (constant rd v))
 constant-one h rd v f = rw constant-parts (emitted-all-one h (parts rd v) (rw constant-parts at f))
+
+-- ---- fields in range
+
+abbrev pub AllInRange : List Form → Type 0
+AllInRange [] = Unit {0}
+AllInRange (f ∷ fs) = InRange f × AllInRange fs
+
+pub in-range-append : (fs gs : List Form) → AllInRange fs → AllInRange gs → AllInRange (fs ++ gs)
+in-range-append [] gs a b = b
+in-range-append (f ∷ fs) gs a b = (a .0, in-range-append fs gs (a .1) b)
+
+cond-in-range : (b : Bool) (f : Form) → InRange f → AllInRange (cond b [] (f ∷ []))
+cond-in-range true f r = tt
+cond-in-range false f r = (r, tt)
+
+upper-in-range : (rd hw v : ℕ) → rd < 32 → hw < 4 → AllInRange (upper rd hw (halfword hw v))
+unfolding upper
+upper-in-range rd hw v h k = cond-in-range (eqb (halfword hw v) 0) (Movk rd hw (halfword hw v)) (h, k, mod-lt (v / 2 ^ (16 * hw)) (omega arith))
+
+pub constant-in-range : (rd v : ℕ) → rd < 32 → AllInRange (constant rd v)
+unfolding constant
+constant-in-range rd v h =
+    let u : ℕ → List Form = λ hw. upper rd hw (halfword hw v) in
+    let a = upper-in-range rd 1 v h (omega arith) in
+    let b = upper-in-range rd 2 v h (omega arith) in
+    let c = upper-in-range rd 3 v h (omega arith) in
+    ((h, omega arith, omega arith), in-range-append (u 1) (u 2 ++ u 3) a (in-range-append (u 2) (u 3) b c))
+
+-- the words of forms read back
+pub decode-encoded : (fs : List Form) → AllInRange fs → map decode (encoded fs) ≡ fs
+decode-encoded [] r = refl
+decode-encoded (f ∷ fs) r = rw (decode-encode f (r .0), decode-encoded fs (r .1))

@@ -122,7 +122,17 @@ decode-op (op ∷ rest) w = cond (eqb (op-bits w) (op-bits (op-word op))) (DataP
 abbrev pub form-if : Bool → Form → Form
 form-if b f = cond b f Unreadable
 
--- the form of a word: its fixed bits are compared with those of the form's word, and its fields are read
+-- the form of a word: its fixed bits are compared with those of the form's word, and its fields are read. The forms without a number:
+abbrev pub decode-register : ℕ → Form
+decode-register w =
+    cond (top-bits 21 0xEB00001F w) (form-if (mid-bits 10 6 0xEB00001F w) (form-if (low-bits 5 0xEB00001F w) (Cmp (rn w) (rm w))))
+    (cond (top-bits 21 0x9A800000 w) (form-if (mid-bits 10 2 0x9A800000 w) (Csel (rd w) (rn w) (rm w) (w / 2 ^ 12 % 16)))
+    (cond (top-bits 21 0x93407C00 w) (form-if (mid-bits 10 11 0x93407C00 w) (Sxtw (rd w) (rn w)))
+    (cond (top-bits 21 0xD63F0000 w) (form-if (mid-bits 10 11 0xD63F0000 w) (form-if (low-bits 5 0xD63F0000 w) (Blr (rn w))))
+    (cond (top-bits 21 0xD65F03C0 w) (form-if (low-bits 21 0xD65F03C0 w) Ret)
+    (decode-op ops w)))))
+
+-- and all forms
 unfoldable pub decode : ℕ → Form
 decode w =
     cond (top-bits 23 0xD2800000 w) (Movz (rd w) (w / 2 ^ 21 % 4) (imm16 w))
@@ -131,9 +141,4 @@ decode w =
     (cond (top-bits 22 0xF9000000 w) (Str (rd w) (rn w) (imm12 w))
     (cond (top-bits 22 0x910003FF w) (form-if (low-bits 10 0x910003FF w) (AddSp (imm12 w)))
     (cond (top-bits 22 0xD10003FF w) (form-if (low-bits 10 0xD10003FF w) (SubSp (imm12 w)))
-    (cond (top-bits 21 0xEB00001F w) (form-if (mid-bits 10 6 0xEB00001F w) (form-if (low-bits 5 0xEB00001F w) (Cmp (rn w) (rm w))))
-    (cond (top-bits 21 0x9A800000 w) (form-if (mid-bits 10 2 0x9A800000 w) (Csel (rd w) (rn w) (rm w) (w / 2 ^ 12 % 16)))
-    (cond (top-bits 21 0x93407C00 w) (form-if (mid-bits 10 11 0x93407C00 w) (Sxtw (rd w) (rn w)))
-    (cond (top-bits 21 0xD63F0000 w) (form-if (mid-bits 10 11 0xD63F0000 w) (form-if (low-bits 5 0xD63F0000 w) (Blr (rn w))))
-    (cond (top-bits 21 0xD65F03C0 w) (form-if (low-bits 21 0xD65F03C0 w) Ret)
-    (decode-op ops w)))))))))))
+    (decode-register w))))))

@@ -5,7 +5,7 @@ ghost use mathlib.Core.List.{[], _∷_};
 ghost use lib.ListN.{length, take};
 ghost use lib.Seq.{sets};
 ghost use Rattle.a64.specs.Emitter.{max-words, held, emitted, encoded, upper, constant, Added, Written, word-bytes};
-ghost use Rattle.a64.specs.Forms.{encode, decode, decode-op, form-if, ops};
+ghost use Rattle.a64.specs.Forms.{encode, decode, decode-op, decode-register, form-if, ops};
 
 // The most words of a block.
 pub const MAX_WORDS: usize = 1862;
@@ -60,10 +60,8 @@ fn decode_op(w: u32) -> Form
     let rd = w % 32;
     let rn = w / 32 % 32;
     let rm = w / 0x1_0000 % 32;
-    let top = w / 0x20_0000;
-    let mid = w / 1024 % 64;
     // Bits 31 to 21 and 15 to 10 side by side.
-    let op = match top * 64 + mid {
+    let op = match w / 0x20_0000 * 64 + w / 1024 % 64 {
         0x1_1600 => Op::Add,
         0x1_9600 => Op::Sub,
         0x1_1400 => Op::And,
@@ -88,17 +86,32 @@ fn form_if(test: bool, f: Form) -> Form
     if test { f } else { Form::Unreadable }
 }
 
+// The form of a word without a number.
+fn decode_register(w: u32) -> Form
+    ensures { λ r. ⌜ r ≡ decode-register w ⌝ }
+{
+    let rd = w % 32;
+    let rn = w / 32 % 32;
+    let rm = w / 0x1_0000 % 32;
+    match w / 0x20_0000 {
+        0x758 => form_if(w / 1024 % 64 == 0, form_if(rd == 31, Form::Cmp(rn, rm))),
+        0x4D4 => form_if(w / 1024 % 4 == 0, Form::Csel(rd, rn, rm, w / 4096 % 16)),
+        0x49A => form_if(w / 1024 % 2048 == 31, Form::Sxtw(rd, rn)),
+        0x6B1 => form_if(w / 1024 % 2048 == 0x7C0, form_if(rd == 0, Form::Blr(rn))),
+        0x6B2 => form_if(w % 0x20_0000 == 0x1F_03C0, Form::Ret),
+        _ => decode_op(w),
+    }
+}
+
 // The form of a word, by its upper eleven bits.
 pub fn decode(w: u32) -> Form
     ensures { λ r. ⌜ r ≡ decode w ⌝ }
 {
     let rd = w % 32;
     let rn = w / 32 % 32;
-    let rm = w / 0x1_0000 % 32;
     let imm = w / 1024 % 4096;
     let half = w / 32 % 0x1_0000;
-    let top = w / 0x20_0000;
-    match top {
+    match w / 0x20_0000 {
         0x694 => Form::Movz(rd, 0, half),
         0x695 => Form::Movz(rd, 1, half),
         0x696 => Form::Movz(rd, 2, half),
@@ -115,12 +128,7 @@ pub fn decode(w: u32) -> Form
         0x489 => form_if(w % 1024 == 0x3FF, Form::AddSp(imm)),
         0x688 => form_if(w % 1024 == 0x3FF, Form::SubSp(imm)),
         0x689 => form_if(w % 1024 == 0x3FF, Form::SubSp(imm)),
-        0x758 => form_if(w / 1024 % 64 == 0, form_if(rd == 31, Form::Cmp(rn, rm))),
-        0x4D4 => form_if(w / 1024 % 4 == 0, Form::Csel(rd, rn, rm, w / 4096 % 16)),
-        0x49A => form_if(w / 1024 % 2048 == 31, Form::Sxtw(rd, rn)),
-        0x6B1 => form_if(w / 1024 % 2048 == 0x7C0, form_if(rd == 0, Form::Blr(rn))),
-        0x6B2 => form_if(w % 0x20_0000 == 0x1F_03C0, Form::Ret),
-        _ => decode_op(w),
+        _ => decode_register(w),
     }
 }
 

@@ -1,10 +1,9 @@
-use lib.ListN.{length, length-set}
 use native.Mathlib.Omega.{arith}
 use borrow.Author.Needs.{needs}
 use Prim.Native.Nat.{_≤_, _-_, min}
 use mathlib.Core.Path.{_≡_, sym, _∙_}
 use native.Mathlib.Numerals.{add-one}
-use lib.ListN.{take, length-take}
+use lib.ListN.{length, take, length-take}
 use Rattle.a64.specs.Emitter.{max-words, held}
 use Rattle.a64.proofs.Emission.{kept, pasted}
 use lib.Seq.{paste, paste-zero, paste-suc, length-paste}
@@ -24,7 +23,8 @@ returns c =
     let p = a .t3 in
     let lp : length (p .words) ≡ max-words = search needs in
     let h : length (take (p .len) (p .words)) ≡ min (p .len) max-words = rw lp at (length-take (p .len) (p .words)) in
-    record { long = search needs; holds = sym (kept (a .words .now) (a .at) (take (p .len) (p .words)) (search needs) (omega (arith, c .before .held-count .ensures))) }
+    let k = c .before .held-count .ensures in
+    record { long = search needs; holds = sym (kept (a .words .now) (a .at) (take (p .len) (p .words)) (search needs) (omega arith)) }
 
 loop-holds : tie.Need-loop-holds Inv-loop μ-loop
 loop-holds c = let a = c .before .before .args in (search needs, paste-zero (a .words .now) (a .at) (a .t3 .words))
@@ -35,7 +35,9 @@ loop-again c =
     let l = c .before .before .loop in
     let lp : length (a .t3 .words) ≡ max-words = search needs in
     let lw : length (a .words .now) ≡ max-words = search needs in
-    (search needs, rw (l .inv .1, paste-suc (a .words .now) (a .at) (a .t3 .words) (l .i) 0 (omega (arith, c .before .before .before .before .held-count .ensures)) (omega (arith, c .before .before .before .before .held-count .ensures)), add-one))
+    let k = c .before .before .before .before .held-count .ensures in
+    let e = paste-suc (a .words .now) (a .at) (a .t3 .words) (l .i) 0 (omega arith) (omega arith) in
+    (search needs, rw (l .inv .1, e, add-one))
 
 returns-2 : tie.Need-returns-2 Inv-loop μ-loop
 unfolding held
@@ -45,10 +47,12 @@ returns-2 c =
     let k = c .before .before .before .held-count in
     let lp : length (a .t3 .words) ≡ max-words = search needs in
     let lw : length (a .words .now) ≡ max-words = search needs in
+    let n = k .ensures in
     let e : l .i ≡ k .result = omega arith in
+    let lx = length-paste (a .words .now) (a .at) (a .t3 .words) (l .i) (omega arith) (omega arith) in
     record {
-      long = rw (l .inv .1) (length-paste (a .words .now) (a .at) (a .t3 .words) (l .i) (omega (arith, k .ensures)) (omega (arith, k .ensures)) ∙ lw);
-      holds = rw (l .inv .1, e, k .ensures) (pasted (a .words .now) (a .at) (a .t3 .words) (a .t3 .len) lw lp (omega (arith, k .ensures)));
+      long = rw (l .inv .1) (lx ∙ lw);
+      holds = rw (l .inv .1, e, n) (pasted (a .words .now) (a .at) (a .t3 .words) (a .t3 .len) lw lp (omega arith));
     }
 
 pub append-spec : {M : Type 1} → statement M

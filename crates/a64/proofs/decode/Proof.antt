@@ -1,6 +1,7 @@
 use mathlib.Core.Path.{_∙_}
+use borrow.Author.Tests.{ne-eqb}
 use Rattle.a64.specs.Forms.{decode}
-use Rattle.a64.proofs.Coding.{quarter, half, not-quarter, not-half, decode-rest}
+use Rattle.a64.proofs.Coding.{quarter, half, not-quarter, not-half}
 use borrow.Author.Needs.{needs}
 use Rattle.a64.proofs.decode.Statement.{statement}
 use Rattle.a64.proofs.decode.Tie as tie
@@ -71,53 +72,23 @@ returns-16 c = c .form-if4 .ensures ∙ simp (quarter, half, c .before .match .k
 
 returns-17 : tie.Need-returns-17
 unfolding decode
-returns-17 c = c .form-if6 .ensures ∙ simp (c .before .form-if5 .ensures, quarter, half, c .before .before .match .keys17)
-
-returns-18 : tie.Need-returns-18
-unfolding decode
-returns-18 c = c .form-if7 .ensures ∙ simp (quarter, half, c .before .match .keys18)
-
-returns-19 : tie.Need-returns-19
-unfolding decode
-returns-19 c = c .form-if8 .ensures ∙ simp (quarter, half, c .before .match .keys19)
-
-returns-20 : tie.Need-returns-20
-unfolding decode
-returns-20 c = c .form-if10 .ensures ∙ simp (c .before .form-if9 .ensures, quarter, half, c .before .before .match .keys20)
-
-returns-21 : tie.Need-returns-21
-unfolding decode
-returns-21 c = c .form-if11 .ensures ∙ simp (quarter, half, c .before .match .keys21)
-
-returns-22 : tie.Need-returns-22
-returns-22 c =
+returns-17 c =
     let w = c .before .before .args .w in
     let r = c .before .match .rest in
-    c .decode-op .ensures
-    ∙ decode-rest w
-    (not-quarter w 0x1A5 (r .0 .0 .0 .0 .0 .0 .0 .0 .0 .0 .0 .0 .0 .0 .0 .0 .0 .0 .0 .0 .1) (r .0 .0 .0 .0 .0 .0 .0 .0 .0 .0 .0 .0 .0 .0 .0 .0 .0 .0 .0 .1) (r .0 .0 .0 .0 .0 .0 .0 .0 .0 .0 .0 .0 .0 .0 .0 .0 .0 .0 .1) (r .0 .0 .0 .0 .0 .0 .0 .0 .0 .0 .0 .0 .0 .0 .0 .0 .0 .1))
-    (not-quarter w 0x1E5 (r .0 .0 .0 .0 .0 .0 .0 .0 .0 .0 .0 .0 .0 .0 .0 .0 .1) (r .0 .0 .0 .0 .0 .0 .0 .0 .0 .0 .0 .0 .0 .0 .0 .1) (r .0 .0 .0 .0 .0 .0 .0 .0 .0 .0 .0 .0 .0 .0 .1) (r .0 .0 .0 .0 .0 .0 .0 .0 .0 .0 .0 .0 .0 .1))
-    (not-half w 0x3E5 (r .0 .0 .0 .0 .0 .0 .0 .0 .0 .0 .0 .0 .1) (r .0 .0 .0 .0 .0 .0 .0 .0 .0 .0 .0 .1))
-    (not-half w 0x3E4 (r .0 .0 .0 .0 .0 .0 .0 .0 .0 .0 .1) (r .0 .0 .0 .0 .0 .0 .0 .0 .0 .1))
-    (not-half w 0x244 (r .0 .0 .0 .0 .0 .0 .0 .0 .1) (r .0 .0 .0 .0 .0 .0 .0 .1))
-    (not-half w 0x344 (r .0 .0 .0 .0 .0 .0 .1) (r .0 .0 .0 .0 .0 .1))
-    (r .0 .0 .0 .0 .1)
-    (r .0 .0 .0 .1)
-    (r .0 .0 .1)
-    (r .0 .1)
-    (r .1)
+    c .decode-register .ensures
+    ∙ simp (
+      ne-eqb _ _ (not-quarter w 0x1A5 (r .0 .0 .0 .0 .0 .0 .0 .0 .0 .0 .0 .0 .0 .0 .0 .1) (r .0 .0 .0 .0 .0 .0 .0 .0 .0 .0 .0 .0 .0 .0 .1) (r .0 .0 .0 .0 .0 .0 .0 .0 .0 .0 .0 .0 .0 .1) (r .0 .0 .0 .0 .0 .0 .0 .0 .0 .0 .0 .0 .1)),
+      ne-eqb _ _ (not-quarter w 0x1E5 (r .0 .0 .0 .0 .0 .0 .0 .0 .0 .0 .0 .1) (r .0 .0 .0 .0 .0 .0 .0 .0 .0 .0 .1) (r .0 .0 .0 .0 .0 .0 .0 .0 .0 .1) (r .0 .0 .0 .0 .0 .0 .0 .0 .1)),
+      ne-eqb _ _ (not-half w 0x3E5 (r .0 .0 .0 .0 .0 .0 .0 .1) (r .0 .0 .0 .0 .0 .0 .1)),
+      ne-eqb _ _ (not-half w 0x3E4 (r .0 .0 .0 .0 .0 .1) (r .0 .0 .0 .0 .1)),
+      ne-eqb _ _ (not-half w 0x244 (r .0 .0 .0 .1) (r .0 .0 .1)),
+      ne-eqb _ _ (not-half w 0x344 (r .0 .1) (r .1)),
+    )
 
 pub decode-spec : {M : Type 1} → statement M
 decode-spec =
     tie.close
     (tie.spec
-    (λ c κs. search needs)
-    (λ c κs. search needs)
-    (λ c κs. search needs)
-    (λ c κs. search needs)
-    (λ c κs. search needs)
-    (λ c κs. search needs)
-    (λ c κs. search needs)
     (λ c κs. search needs)
     (λ c κs. search needs)
     (λ c κs. search needs)
@@ -139,9 +110,4 @@ decode-spec =
     returns-14
     returns-15
     returns-16
-    returns-17
-    returns-18
-    returns-19
-    returns-20
-    returns-21
-    returns-22)
+    returns-17)

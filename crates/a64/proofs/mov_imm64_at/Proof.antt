@@ -1,9 +1,9 @@
 use borrow.Author.Needs.{needs}
 use native.Mathlib.Omega.{arith}
 use Prim.Native.Nat.{_+_, _≤_}
-use mathlib.Core.Path.{sym}
+use mathlib.Core.Path.{_≡_, sym}
 use lib.ListN.{length, take, length-take}
-use Rattle.a64.specs.Emitter.{constant, encoded}
+use Rattle.a64.specs.Emitter.{max-words, constant, encoded}
 use Rattle.a64.proofs.Emission.{kept, length-encoded, constant-one, constant-length}
 use Rattle.a64.proofs.mov_imm64_at.Statement.{statement}
 use Rattle.a64.proofs.mov_imm64_at.Tie as tie
@@ -11,18 +11,36 @@ use Rattle.a64.proofs.mov_imm64_at.Tie as tie
 returns : tie.Need-returns
 returns c =
     let s = c .before .before .before .before .args in
-    let l = constant-length (s .rd) (s .val) _ _ _ (c .before .before .before .upper-count .ensures .1 (s .rd) 1) (c .before .before .upper-count2 .ensures .1 (s .rd) 2) (c .before .upper-count3 .ensures .1 (s .rd) 3) in
-    let m = length-encoded (constant (s .rd) (s .val)) in
-    record { long = search needs; holds = sym (kept (s .words .now) (s .at) (encoded (constant (s .rd) (s .val))) (search needs) (omega arith)) }
+    let u1 = c .before .before .before .upper-count .ensures .1 (s .rd) 1 in
+    let u2 = c .before .before .upper-count2 .ensures .1 (s .rd) 2 in
+    let u3 = c .before .upper-count3 .ensures .1 (s .rd) 3 in
+    let l = constant-length (s .rd) (s .val) _ _ _ u1 u2 u3 in
+    let ws = encoded (constant (s .rd) (s .val)) in
+    let m : length ws ≡ length (constant (s .rd) (s .val)) = length-encoded (constant (s .rd) (s .val)) in
+    record { long = search needs; holds = sym (kept (s .words .now) (s .at) ws (search needs) (omega arith)) }
 
 returns-2 : tie.Need-returns-2
 returns-2 c =
     let d = c .before .before .before .before .before .before .before .before in
     let s = d .before .before .before .before .args in
-    let l = constant-length (s .rd) (s .val) _ _ _ (d .before .before .before .upper-count .ensures .1 (s .rd) 1) (d .before .before .upper-count2 .ensures .1 (s .rd) 2) (d .before .upper-count3 .ensures .1 (s .rd) 3) in
+    let u1 = d .before .before .before .upper-count .ensures .1 (s .rd) 1 in
+    let u2 = d .before .before .upper-count2 .ensures .1 (s .rd) 2 in
+    let u3 = d .before .upper-count3 .ensures .1 (s .rd) 3 in
+    let l = constant-length (s .rd) (s .val) _ _ _ u1 u2 u3 in
+    let h = take (s .at) (s .words .now) in
     let k = length-take (s .at) (s .words .now) in
-    let f : length (take (s .at) (s .words .now)) + length (constant (s .rd) (s .val)) ≤ 1862 = omega arith in
-    record { long = c .upper-at3 .ensures .long; holds = rw (c .upper-at3 .ensures .holds, c .before .before .upper-at2 .ensures .holds, c .before .before .before .before .upper-at .ensures .holds, c .before .before .before .before .before .before .emit-at .ensures .holds) (constant-one (take (s .at) (s .words .now)) (s .rd) (s .val) f) }
+    let f : length h + length (constant (s .rd) (s .val)) ≤ max-words = omega arith in
+    record {
+      long = c .upper-at3 .ensures .long;
+      holds =
+          rw (
+            c .upper-at3 .ensures .holds,
+            c .before .before .upper-at2 .ensures .holds,
+            c .before .before .before .before .upper-at .ensures .holds,
+            c .before .before .before .before .before .before .emit-at .ensures .holds,
+          )
+          (constant-one h (s .rd) (s .val) f);
+    }
 
 pub mov-imm64-at-spec : {M : Type 1} → statement M
 mov-imm64-at-spec =

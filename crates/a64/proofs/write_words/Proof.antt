@@ -27,7 +27,8 @@ loop-again c =
     let a = c .before .before .before .before .before .before .before .before .before .args in
     let l = c .before .before .before .before .before .before .loop in
     let k = c .before .before .before .before .before .before .before .held-count .ensures in
-    (search needs, c .before .before .write-word .ensures ∙ rw (l .inv .1) (bytes-more (a .words .now) (a .out .now) (l .i) (omega arith) (omega arith)))
+    let e = bytes-more (a .words .now) (a .out .now) (l .i) (omega arith) (omega arith) in
+    (search needs, c .before .before .write-word .ensures ∙ rw (l .inv .1) e)
 
 same-length : tie.Need-same-length Inv-loop μ-loop
 same-length c =
