@@ -1,3 +1,4 @@
 pub mod Exec
 pub mod Flags
 pub mod Run
+pub mod RunLaws

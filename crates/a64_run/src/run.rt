@@ -50,7 +50,15 @@ fn end_number(e: End) -> u32
 }
 
 // Word i of the block, read and executed.
-fn step(x: &mut [u64; 31], sp: u64, flags: Flags, block: &[u8], i: usize, memory: &mut [u8], base: u64) -> Stepped
+fn step(
+    x: &mut [u64; 31],
+    sp: u64,
+    flags: Flags,
+    block: &[u8],
+    i: usize,
+    memory: &mut [u8],
+    base: u64,
+) -> Stepped
     requires { ⌜ (length (now x) ≡ 31) × (4 * i + 4 ≤ length (now block)) ⌝ }
     ensures { λ r. ⌜ Executed (decode (load 4 (now (block .entry)) (4 * i))) (machine (now (x .entry)) sp flags base (now (memory .entry))) r (now (x .exit)) (now (memory .exit)) ⌝ }
 {
@@ -59,7 +67,14 @@ fn step(x: &mut [u64; 31], sp: u64, flags: Flags, block: &[u8], i: usize, memory
 }
 
 // Runs the block's words from the first until one ends the run.
-fn run_words(block: &[u8], address: u64, state: A64State, budget: u64, memory: &mut [u8], base: u64) -> Ran
+fn run_words(
+    block: &[u8],
+    address: u64,
+    state: A64State,
+    budget: u64,
+    memory: &mut [u8],
+    base: u64,
+) -> Ran
     ensures { λ r. ⌜ R.ran (r .end) (r .steps) (R.at-entry (r .state) base (now (memory .exit))) ≡ R.whole (now (block .entry)) address state budget (now (memory .entry)) base ⌝ }
 {
     let count = block.len() / 4;
@@ -68,7 +83,11 @@ fn run_words(block: &[u8], address: u64, state: A64State, budget: u64, memory: &
     while i < count {
         let k = i as u64;
         if k == budget {
-            return Ran { end: End::Spent, steps: k, state: at };
+            return Ran {
+                end: End::Spent,
+                steps: k,
+                state: at,
+            };
         }
         let sp = at.sp;
         let flags = at.flags;
@@ -79,15 +98,83 @@ fn run_words(block: &[u8], address: u64, state: A64State, budget: u64, memory: &
         let outcome = r.outcome;
         match outcome {
             Outcome::Next => {}
-            Outcome::Fault => return Ran { end: End::Fault, steps: k, state: at },
-            Outcome::Unreadable => return Ran { end: End::Unreadable, steps: k, state: at },
-            Outcome::Return => return Ran { end: End::Returned, steps: k + 1, state: at },
+            Outcome::Fault => return Ran {
+                end: End::Fault,
+                steps: k,
+                state: at,
+            },
+            Outcome::Unreadable => return Ran {
+                end: End::Unreadable,
+                steps: k,
+                state: at,
+            },
+            Outcome::Return => return Ran {
+                end: End::Returned,
+                steps: k + 1,
+                state: at,
+            },
             Outcome::Call => {
                 at.x[30] = std::num::wrapping_add_u64(address, 4 * k + 4);
-                return Ran { end: End::Called, steps: k + 1, state: at };
+                return Ran {
+                    end: End::Called,
+                    steps: k + 1,
+                    state: at,
+                };
             }
         }
         i += 1;
     }
-    Ran { end: End::OffEnd, steps: i as u64, state: at }
+    Ran {
+        end: End::OffEnd,
+        steps: i as u64,
+        state: at,
+    }
+}
+
+// The refusal of a block and a memory, or 0.
+fn refuse(block: &[u8], memory: &[u8], base: u64) -> u32
+    ensures { λ r. ⌜ r ≡ R.refusal (now (block .entry)) base (now (memory .entry)) ⌝ }
+{
+    if block.len() % 4 != 0 {
+        return 10;
+    }
+    if base == 0 {
+        return 0;
+    }
+    if 0xFFFF_FFFF_FFFF_FFFF - base + 1 < memory.len() as u64 {
+        return 11;
+    }
+    0
+}
+
+// A64 run (document 01): the words of `block` at `address`, from word 0, with `memory` from `base` on.
+pub fn a64_run(
+    block: &[u8],
+    address: u64,
+    state: A64State,
+    budget: u64,
+    memory: &mut [u8],
+    base: u64,
+) -> Answer
+    ensures { λ r. ⌜ r ≡ R.answer (now (block .entry)) address state budget (now (memory .entry)) base ⌝ }
+    ensures { λ r. ⌜ now (memory .exit) ≡ R.memory-after (now (block .entry)) address state budget (now (memory .entry)) base ⌝ }
+{
+    let refusal = refuse(block, memory, base);
+    if refusal != 0 {
+        return Answer {
+            refusal: refusal,
+            end: 0,
+            steps: 0,
+            state: state,
+        };
+    }
+    let ran = run_words(block, address, state, budget, memory, base);
+    let after = ran.state;
+    let end = ran.end;
+    Answer {
+        refusal: 0,
+        end: end_number(end),
+        steps: ran.steps,
+        state: after,
+    }
 }

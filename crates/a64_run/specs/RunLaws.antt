@@ -1,0 +1,113 @@
+-- Laws of `run`, and what holds at word i of a run: what is left of it ends as the whole does. Assumes nothing.
+use mathlib.Core.Path.{_≡_, refl, sym, ap, _∙_}
+use mathlib.Core.List.{List, [], _∷_}
+use Prim.Native.Nat.{ℕ, zero, suc, _+_, _-_, _*_, _/_, _^_, _≤_, _<_}
+use native.Mathlib.Nat.{le-of-suc-le-suc}
+use native.Mathlib.Numerals.{add-one}
+use native.Mathlib.Omega.{arith}
+use lib.ListN.{length, drop}
+use lib.Seq.{drop-nil}
+use Rattle.le.specs.Le.{number, load}
+use Rattle.a64.specs.Forms.{decode}
+use Rattle.a64_run.specs.declared.state.Flags.{Flags}
+use Rattle.a64_run.specs.declared.exec.Outcome.{Outcome}
+use Rattle.a64_run.specs.declared.exec.Stepped.{Stepped}
+use Rattle.a64_run.specs.declared.run.End.{End}
+use Rattle.a64_run.specs.Exec.{State, machine, After, after, exec, Executed}
+use Rattle.a64_run.specs.Run.{words, Ran, ran, onward, run}
+
+-- word i of a block, and the words behind it
+pub words-at : (bs : List ℕ) (i : ℕ) → 4 * i + 4 ≤ length bs → drop i (words bs) ≡ load 4 bs (4 * i) ∷ drop (suc i) (words bs)
+unfolding words load number
+words-at (a ∷ b ∷ c ∷ d ∷ bs) zero h = refl
+words-at (a ∷ b ∷ c ∷ d ∷ bs) (suc i) h =
+    let e : 4 * suc i ≡ suc (suc (suc (suc (4 * i)))) = omega arith in
+    rw e (words-at bs i (omega arith))
+words-at (a ∷ b ∷ c ∷ []) i h = absurd (omega arith)
+words-at (a ∷ b ∷ []) i h = absurd (omega arith)
+words-at (a ∷ []) i h = absurd (omega arith)
+words-at [] i h = absurd (omega arith)
+
+pub words-over : (bs : List ℕ) (i : ℕ) → length bs / 4 ≤ i → drop i (words bs) ≡ []
+unfolding words
+words-over (a ∷ b ∷ c ∷ d ∷ bs) zero h = absurd (omega arith)
+words-over (a ∷ b ∷ c ∷ d ∷ bs) (suc i) h = words-over bs i (omega arith)
+words-over (a ∷ b ∷ c ∷ []) i h = drop-nil i
+words-over (a ∷ b ∷ []) i h = drop-nil i
+words-over (a ∷ []) i h = drop-nil i
+words-over [] i h = drop-nil i
+
+-- one word
+pub run-word : (w : ℕ) (ws : List ℕ) (at budget k : ℕ) (s : State) → 0 < budget
+    → run (w ∷ ws) at budget k s ≡ onward (exec (decode w) s) at k (run ws (at + 4) (budget - 1) (suc k))
+unfolding run
+run-word w ws at zero k s h = absurd (omega arith)
+run-word w ws at (suc b) k s h = let e : suc b - 1 ≡ b = omega arith in rw e
+
+pub run-spent : (w : ℕ) (ws : List ℕ) (at budget k : ℕ) (s : State) → budget ≡ 0 → run (w ∷ ws) at budget k s ≡ ran End.Spent k s
+unfolding run
+run-spent w ws at budget k s h = rw h
+
+-- what is left of a run at word i, in the state that x, sp, flags and m make
+abbrev pub rest : List ℕ → ℕ → ℕ → ℕ → State → Ran
+rest block address budget i s = run (drop i (words block)) (address + 4 * i) (budget - i) i s
+
+-- the run w, at word i of n, with the registers x and the memory m, of which there are l bytes
+pub record Running (w : Ran) (block : List ℕ) (address budget base n l : ℕ) (x : List ℕ) (sp : ℕ) (flags : Flags) (m : List ℕ) (i : ℕ) : Type 0 where
+  pub words-are : n ≡ length block / 4
+  pub upto : i ≤ n
+  pub unspent : i ≤ budget
+  pub registers : length x ≡ 31
+  pub size : length m ≡ l
+  pub same : rest block address budget i (machine x sp flags base m) ≡ w
+
+pub start : (block : List ℕ) (address budget base : ℕ) (x : List ℕ) (sp : ℕ) (flags : Flags) (m : List ℕ) → length x ≡ 31
+    → Running (run (words block) address budget 0 (machine x sp flags base m)) block address budget base (length block / 4) (length m) x sp flags m 0
+start block address budget base x sp flags m h =
+    let e : address + 4 * 0 ≡ address = omega arith in
+    let f : budget - 0 ≡ budget = omega arith in
+    record { words-are = refl; upto = omega arith; unspent = omega arith; registers = h; size = refl; same = rw (e, f) }
+
+module _ {w : Ran} {block : List ℕ} {address budget base n l : ℕ} {x : List ℕ} {sp : ℕ} {flags : Flags} {m : List ℕ} {i : ℕ}
+    (v : Running w block address budget base n l x sp flags m i) where
+  pub off-end : n ≤ i → ran End.OffEnd i (machine x sp flags base m) ≡ w
+  unfolding run
+  off-end h =
+      let e : drop i (words block) ≡ [] = words-over block i (omega arith) in
+      rw e at (v .same)
+
+  pub spent : i < n → i ≡ budget → ran End.Spent i (machine x sp flags base m) ≡ w
+  spent h e =
+      let d : drop i (words block) ≡ load 4 block (4 * i) ∷ drop (suc i) (words block) = words-at block i (omega arith) in
+      sym (run-spent (load 4 block (4 * i)) (drop (suc i) (words block)) (address + 4 * i) (budget - i) i (machine x sp flags base m) (omega arith))
+      ∙ rw d at (v .same)
+
+  -- a word that was executed
+  module _ (r : Stepped) (x′ m′ : List ℕ) (h : i < n) (u : i ≡ budget → ⊥)
+      (t : Executed (decode (load 4 block (4 * i))) (machine x sp flags base m) r x′ m′) where
+    step-is : onward (after (r .outcome) (machine x′ (r .sp) (r .flags) base m′)) (address + 4 * i) i
+        (run (drop (suc i) (words block)) (address + 4 * i + 4) (budget - i - 1) (suc i)) ≡ w
+    step-is =
+        let d : drop i (words block) ≡ load 4 block (4 * i) ∷ drop (suc i) (words block) = words-at block i (omega arith) in
+        rw (← t .goes)
+        (sym (run-word (load 4 block (4 * i)) (drop (suc i) (words block)) (address + 4 * i) (budget - i) i (machine x sp flags base m) (omega arith))
+        ∙ rw d at (v .same))
+
+    pub ended : (e : Ran) → onward (after (r .outcome) (machine x′ (r .sp) (r .flags) base m′)) (address + 4 * i) i
+        (run (drop (suc i) (words block)) (address + 4 * i + 4) (budget - i - 1) (suc i)) ≡ e → e ≡ w
+    ended e p = sym p ∙ step-is
+
+    pub onto : r .outcome ≡ Outcome.Next → Running w block address budget base n l x′ (r .sp) (r .flags) m′ (i + 1)
+    unfolding onward
+    onto o =
+        let a : address + 4 * i + 4 ≡ address + 4 * (i + 1) = omega arith in
+        let b : budget - i - 1 ≡ budget - (i + 1) = omega arith in
+        let k : suc i ≡ i + 1 = omega arith in
+        record {
+          words-are = v .words-are;
+          upto = omega arith;
+          unspent = omega arith;
+          registers = t .registers;
+          size = t .size ∙ v .size;
+          same = rw (o, a, b, k) at step-is;
+        }
