@@ -1,1 +1,3 @@
 pub mod Reach
+pub mod Slots
+pub mod Straight

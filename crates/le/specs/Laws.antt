@@ -1,14 +1,15 @@
 -- Laws of numbers in bytes: a number of a + b bytes is one of a bytes and one of b behind it. Assumes nothing.
 use mathlib.Core.Path.{_≡_, refl, sym, ap, _∙_}
 use mathlib.Core.List.{List, [], _∷_, _++_, append-assoc}
-use Prim.Native.Nat.{ℕ, zero, suc, _+_, _*_, _/_, _%_, _^_, _≤_, _<_}
-use native.Mathlib.Nat.{zero-add, suc-add, add-assoc, mul-assoc, mul-comm, pow-suc, div-div-eq-div-mul, div-one}
+use Prim.Native.Nat.{ℕ, zero, suc, _+_, _-_, _*_, _/_, _%_, _^_, _≤_, _<_}
+use native.Mathlib.Nat.{zero-add, add-zero, suc-add, add-assoc, mul-assoc, mul-comm, pow-suc, div-div-eq-div-mul, div-one, div-lt-iff-lt-mul, not-suc-le-zero, le-of-suc-le-suc}
 use native.Mathlib.Omega.{arith}
-use native.Mathlib.Numerals.{add-one}
-use lib.ListN.{length, take, drop, getD, set, length-append, length-take, length-drop}
+use native.Mathlib.Numerals.{add-one, one-add}
+use mathlib.Core.Logic.{_⊎_, inl, inr}
+use lib.ListN.{length, take, drop, getD, set, length-append, length-take, length-drop, List·getD-append}
 use lib.Dec.{lit<}
-use lib.Arith.{mod-mul, digits-mod, digits-div}
-use lib.Seq.{drop-drop, take-at, drop-append-add, length-take-le, drop-cons, set-split}
+use lib.Arith.{mod-mul, digits-mod, digits-div, lt-one}
+use lib.Seq.{drop-drop, take-at, drop-at, drop-append-add, length-take-le, drop-cons, set-split, getD-take, getD-drop, getD-append-add}
 use Rattle.le.specs.Le.{number, bytes, load, store}
 
 take-none : (k : ℕ) → number (take k []) ≡ 0
@@ -80,3 +81,83 @@ load-byte m i h = rw (drop-cons m i 0 h) (omega arith)
 pub store-byte : (m : List ℕ) (i v : ℕ) → i < length m → store 1 m i v ≡ set m i (v % 256)
 unfolding store bytes
 store-byte m i v h = rw (set-split m i (v % 256) h, add-one)
+
+-- ---- a load after a store, and the bytes outside
+
+pub number-bytes : (k v : ℕ) → v < 256 ^ k → number (bytes k v) ≡ v
+unfolding number bytes
+number-bytes zero v h = rw (lt-one h)
+number-bytes (suc k) v h =
+    let l : v / 256 < 256 ^ k = div-lt-iff-lt-mul (lit< {m = 0} {n = 256} tt) .1 (rw (pow-suc 256 k) at h) in
+    rw (number-bytes k (v / 256) l) (omega arith)
+
+-- every element is a byte
+pub Bytes : List ℕ → Type 0
+Bytes m = (i : ℕ) → getD m i 0 < 256
+
+number-lt : (k : ℕ) (l : List ℕ) → Bytes l → length l ≤ k → number l < 256 ^ k
+unfolding number Bytes
+number-lt k [] h hk = pow-pos k
+number-lt zero (b ∷ bs) h hk = absurd (not-suc-le-zero hk)
+number-lt (suc k) (b ∷ bs) h hk =
+    let hb : b < 256 = h 0 in
+    let ih : number bs < 256 ^ k = number-lt k bs (λ i. h (suc i)) (le-of-suc-le-suc hk) in
+    rw (pow-suc 256 k) (omega arith)
+
+-- stored at i and loaded there
+pub load-same : (k : ℕ) (m : List ℕ) (i v : ℕ) → i ≤ length m → v < 256 ^ k → load k (store k m i v) i ≡ v
+unfolding load store
+load-same k m i v h hv =
+    rw (drop-at (take i m) (bytes k v ++ drop (i + k) m) i (length-take-le i m h), take-at (bytes k v) (drop (i + k) m) k (length-bytes k v))
+    (number-bytes k v hv)
+
+-- each byte outside the k stored is as it was
+pub store-below : (k : ℕ) (m : List ℕ) (i v j : ℕ) → i ≤ length m → j < i → getD (store k m i v) j 0 ≡ getD m j 0
+unfolding store
+store-below k m i v j h l =
+    List·getD-append (take i m) (bytes k v ++ drop (i + k) m) 0 j (rw (length-take-le i m h) l) ∙ getD-take i m j 0 l
+
+pub store-above : (k : ℕ) (m : List ℕ) (i v j : ℕ) → i ≤ length m → getD (store k m i v) (i + k + j) 0 ≡ getD m (i + k + j) 0
+unfolding store
+store-above k m i v j h =
+    let e : i + k + j ≡ length (take i m) + (length (bytes k v) + j) = rw (length-take-le i m h, length-bytes k v) (add-assoc i k j) in
+    ap (λ (n : ℕ). getD (take i m ++ (bytes k v ++ drop (i + k) m)) n 0) e
+    ∙ getD-append-add (take i m) (bytes k v ++ drop (i + k) m) (length (bytes k v) + j) 0
+    ∙ getD-append-add (bytes k v) (drop (i + k) m) j 0
+    ∙ getD-drop (i + k) m j 0
+
+-- a load sees only its own bytes
+load-ext : (k : ℕ) (m m′ : List ℕ) (i : ℕ) → i + k ≤ length m → i + k ≤ length m′
+    → ((t : ℕ) → t < k → getD m (i + t) 0 ≡ getD m′ (i + t) 0) → load k m i ≡ load k m′ i
+load-ext zero m m′ i h h′ e = unfold load number in refl
+load-ext (suc k) m m′ i h h′ e =
+    let z : getD m i 0 ≡ getD m′ i 0 = rw add-zero at (e 0 (omega arith)) in
+    let r : load k m (i + 1) ≡ load k m′ (i + 1) =
+    load-ext k m m′ (i + 1) (omega arith) (omega arith)
+    (λ t l. let q : i + 1 + t ≡ i + suc t = omega arith in rw q (e (suc t) (omega arith))) in
+    rw (← one-add k, load-add 1 k m i, load-add 1 k m′ i, load-byte m i (omega arith), load-byte m′ i (omega arith), z, r)
+
+pub load-other : (k : ℕ) (m : List ℕ) (i v j : ℕ) → i + k ≤ length m → j + k ≤ length m → (j + k ≤ i) ⊎ (i + k ≤ j)
+    → load k (store k m i v) j ≡ load k m j
+load-other k m i v j hi hj (inl h) =
+    load-ext k (store k m i v) m j (rw (length-store k m i v hi) hj) hj (λ t l. store-below k m i v (j + t) (omega arith) (omega arith))
+load-other k m i v j hi hj (inr h) =
+    load-ext k (store k m i v) m j (rw (length-store k m i v hi) hj) hj
+    (λ t l. let q : i + k + (j - (i + k) + t) ≡ j + t = omega arith in rw q at (store-above k m i v (j - (i + k) + t) (omega arith)))
+
+-- a load of bytes has as many
+bytes-drop : (i : ℕ) (m : List ℕ) → Bytes m → Bytes (drop i m)
+unfolding Bytes
+bytes-drop i m h j = rw (getD-drop i m j 0) (h (i + j))
+
+bytes-take : (k : ℕ) (l : List ℕ) → Bytes l → Bytes (take k l)
+unfolding Bytes
+bytes-take zero l h i = omega arith
+bytes-take (suc k) [] h i = h i
+bytes-take (suc k) (b ∷ bs) h zero = h 0
+bytes-take (suc k) (b ∷ bs) h (suc i) = bytes-take k bs (λ j. h (suc j)) i
+
+pub load-lt : (k : ℕ) (m : List ℕ) (i : ℕ) → Bytes m → load k m i < 256 ^ k
+unfolding load
+load-lt k m i h =
+    number-lt k (take k (drop i m)) (bytes-take k (drop i m) (bytes-drop i m h)) (rw (length-take k (drop i m)) (omega arith))

@@ -1,0 +1,58 @@
+-- The 32 slots of the guest registers in memory, each on its own: p n is the place of slot n. Assumes nothing.
+use mathlib.Core.Path.{_≡_, refl, sym, ap, _∙_}
+use mathlib.Core.Bool.{Bool, true, false}
+use mathlib.Core.Logic.{_⊎_, inl, inr}
+use mathlib.Core.List.{List}
+use Prim.Native.Nat.{ℕ, _+_, _-_, _^_, _≤_, _<_}
+use native.Mathlib.Omega.{arith}
+use lib.Dec.{eqb}
+use lib.ListN.{length, getD, set, length-set}
+use lib.Seq.{getD-set-same, getD-set-other}
+use borrow.Author.Tests.{eqb-true, eqb-false}
+use Rattle.le.specs.Le.{load, store}
+use Rattle.le.specs.Laws.{load-same, load-other, store-below, store-above, length-store}
+
+-- apart from each other, and inside len bytes
+pub record Apart (p : ℕ → ℕ) (len : ℕ) : Type 0 where
+  pub inside : (n : ℕ) → n < 32 → p n + 8 ≤ len
+  pub apart : (n k : ℕ) → n < 32 → k < 32 → (n ≡ k → ⊥) → (p k + 8 ≤ p n) ⊎ (p n + 8 ≤ p k)
+
+-- byte j lies in none of the slots
+abbrev pub Outside : (ℕ → ℕ) → ℕ → Type 0
+Outside p j = (n : ℕ) → n < 32 → (j < p n) ⊎ (p n + 8 ≤ j)
+
+-- the memory m has the numbers vs in its slots, and is m₀ outside them
+pub record Slots (p : ℕ → ℕ) (m₀ m vs : List ℕ) : Type 0 where
+  pub size : length m ≡ length m₀
+  pub count : length vs ≡ 32
+  pub holds : (n : ℕ) → n < 32 → load 8 m (p n) ≡ getD vs n 0
+  pub outside : (j : ℕ) → Outside p j → getD m j 0 ≡ getD m₀ j 0
+
+module _ (p : ℕ → ℕ) (m₀ m vs : List ℕ) (d : Apart p (length m₀)) (s : Slots p m₀ m vs) where
+  -- a store to slot n
+  pub slot-stored : (n w : ℕ) → n < 32 → w < 2 ^ 64 → Slots p m₀ (store 8 m (p n) w) (set vs n w)
+  slot-stored n w hn hw =
+      record {
+        size = length-store 8 m (p n) w at-n ∙ s .size;
+        count = length-set vs n w ∙ s .count;
+        holds = λ k hk. by k hk (eqb k n) refl;
+        outside = λ j o. beside j (o n hn) ∙ s .outside j o;
+      }
+    where
+      at-n : p n + 8 ≤ length m
+      at-n = rw (s .size) (d .inside n hn)
+
+      by : (k : ℕ) → k < 32 → (t : Bool) → eqb k n ≡ t → load 8 (store 8 m (p n) w) (p k) ≡ getD (set vs n w) k 0
+      by k hk true q =
+          let e : k ≡ n = eqb-true k n q in
+          rw e (load-same 8 m (p n) w (omega (arith, at-n)) hw ∙ sym (getD-set-same vs n w 0 (rw (s .count) hn)))
+      by k hk false q =
+          load-other 8 m (p n) w (p k) at-n (rw (s .size) (d .inside k hk)) (d .apart n k hn hk (λ e. eqb-false k n q (sym e)))
+          ∙ s .holds k hk
+          ∙ sym (getD-set-other vs n k w 0 (eqb-false k n q))
+
+      beside : (j : ℕ) → (j < p n) ⊎ (p n + 8 ≤ j) → getD (store 8 m (p n) w) j 0 ≡ getD m j 0
+      beside j (inl h) = store-below 8 m (p n) w j (omega (arith, at-n)) h
+      beside j (inr h) =
+          let e : p n + 8 + (j - (p n + 8)) ≡ j = omega arith in
+          rw e at (store-above 8 m (p n) w (j - (p n + 8)) (omega (arith, at-n)))
