@@ -1,0 +1,5 @@
+pub mod Alu
+pub mod Decode
+pub mod Compressed
+pub mod Execute
+pub mod Run
