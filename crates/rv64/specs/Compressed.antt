@@ -2,7 +2,7 @@
 -- Instruction Set Listings'; what is covered and what is a helper's, from document 01, rules 2 to 4. Definitions only.
 use mathlib.Core.Bool.{Bool, cond}
 use mathlib.Core.List.{List, [], _∷_}
-use Prim.Native.Nat.{ℕ, _+_, _*_}
+use Prim.Native.Nat.{ℕ, _+_, _*_, _%_}
 use lib.Dec.{eqb}
 use Rattle.word.specs.Word.{shl}
 use Rattle.isa.specs.Formats.{inst, rd, lowReg, highReg, immCIW, immCI, shamtC, immCI16, immCJ, immCB}
@@ -27,17 +27,19 @@ itself i = i
 
 -- ---- quadrant 0: C.ADDI4SPN; C.LW, C.LD, C.SW, C.SD are a helper's
 
-unfoldable pub quadrant0 : ℕ → Instr
+unfoldable pub table0 : ℕ → Table Instr
 unfolding unless0
-quadrant0 w =
-    lookup
-    ((0b000, unless0 (immCIW w) (Instr.OpImm Alu.Add (lowReg w) 2 (immCIW w)))
+table0 w =
+    (0b000, unless0 (immCIW w) (Instr.OpImm Alu.Add (lowReg w) 2 (immCIW w)))
     ∷ (0b010, Instr.Helper)
     ∷ (0b011, Instr.Helper)
     ∷ (0b110, Instr.Helper)
     ∷ (0b111, Instr.Helper)
-    ∷ [])
-    (funct3 w) itself Instr.Uncovered
+    ∷ []
+
+unfoldable pub quadrant0 : ℕ → Instr
+unfolding table0
+quadrant0 w = lookup (table0 w) (funct3 w) itself Instr.Uncovered
 
 -- ---- quadrant 1
 
@@ -60,16 +62,18 @@ unfolding ariths
 arith w = lookup ariths (inst 12 12 w * 4 + inst 6 5 w) (reg w) Instr.Uncovered
 
 -- by inst[11:10]: C.SRLI, C.SRAI, C.ANDI, and those above
-unfoldable pub miscAlu : ℕ → Instr
+unfoldable pub miscAlus : ℕ → Table Instr
 unfolding arith
-miscAlu w =
-    lookup
-    ((0b00, Instr.OpImm Alu.Srl (highReg w) (highReg w) (shamtC w))
+miscAlus w =
+    (0b00, Instr.OpImm Alu.Srl (highReg w) (highReg w) (shamtC w))
     ∷ (0b01, Instr.OpImm Alu.Sra (highReg w) (highReg w) (shamtC w))
     ∷ (0b10, Instr.OpImm Alu.And (highReg w) (highReg w) (immCI w))
     ∷ (0b11, arith w)
-    ∷ [])
-    (inst 11 10 w) itself Instr.Uncovered
+    ∷ []
+
+unfoldable pub miscAlu : ℕ → Instr
+unfolding miscAlus
+miscAlu w = lookup (miscAlus w) (inst 11 10 w) itself Instr.Uncovered
 
 -- C.ADDI16SP where rd is 2, else C.LUI; both reserved with the immediate 0, C.LUI refused with rd 0
 unfoldable pub luiAddi16sp : ℕ → Instr
@@ -79,11 +83,10 @@ luiAddi16sp w =
     (unless0 (rd w) (unless0 (immCI w) (Instr.Lui (rd w) (shl (immCI w) 12))))
 
 -- C.NOP and C.ADDI, C.ADDIW (reserved with rd 0), C.LI, C.ADDI16SP and C.LUI, those above, C.J, C.BEQZ, C.BNEZ
-unfoldable pub quadrant1 : ℕ → Instr
+unfoldable pub table1 : ℕ → Table Instr
 unfolding unless0 luiAddi16sp miscAlu
-quadrant1 w =
-    lookup
-    ((0b000, Instr.OpImm Alu.Add (rd w) (rd w) (immCI w))
+table1 w =
+    (0b000, Instr.OpImm Alu.Add (rd w) (rd w) (immCI w))
     ∷ (0b001, unless0 (rd w) (Instr.OpImm Alu.Addw (rd w) (rd w) (immCI w)))
     ∷ (0b010, Instr.OpImm Alu.Add (rd w) 0 (immCI w))
     ∷ (0b011, luiAddi16sp w)
@@ -91,8 +94,11 @@ quadrant1 w =
     ∷ (0b101, Instr.Jal 0 (immCJ w))
     ∷ (0b110, Instr.Branch Cond.Eq (highReg w) 0 (immCB w))
     ∷ (0b111, Instr.Branch Cond.Ne (highReg w) 0 (immCB w))
-    ∷ [])
-    (funct3 w) itself Instr.Uncovered
+    ∷ []
+
+unfoldable pub quadrant1 : ℕ → Instr
+unfolding table1
+quadrant1 w = lookup (table1 w) (funct3 w) itself Instr.Uncovered
 
 -- ---- quadrant 2; e: C.EBREAK does nothing
 
@@ -111,37 +117,43 @@ ebreakJalrAdd e w =
     (unless0 (rd w) (Instr.Op Alu.Add (rd w) (rd w) (rs2 w)))
 
 -- by inst[12]
-unfoldable pub cr : Bool → ℕ → Instr
+unfoldable pub crs : Bool → ℕ → Table Instr
 unfolding jrMv ebreakJalrAdd
-cr e w =
-    lookup
-    ((0b0, jrMv w)
+crs e w =
+    (0b0, jrMv w)
     ∷ (0b1, ebreakJalrAdd e w)
-    ∷ [])
-    (inst 12 12 w) itself Instr.Uncovered
+    ∷ []
+
+unfoldable pub cr : Bool → ℕ → Instr
+unfolding crs
+cr e w = lookup (crs e w) (inst 12 12 w) itself Instr.Uncovered
 
 -- C.SLLI (refused with rd 0), those above; C.LWSP, C.LDSP, C.SWSP, C.SDSP are a helper's
-unfoldable pub quadrant2 : Bool → ℕ → Instr
+unfoldable pub table2 : Bool → ℕ → Table Instr
 unfolding unless0 cr
-quadrant2 e w =
-    lookup
-    ((0b000, unless0 (rd w) (Instr.OpImm Alu.Sll (rd w) (rd w) (shamtC w)))
+table2 e w =
+    (0b000, unless0 (rd w) (Instr.OpImm Alu.Sll (rd w) (rd w) (shamtC w)))
     ∷ (0b010, Instr.Helper)
     ∷ (0b011, Instr.Helper)
     ∷ (0b100, cr e w)
     ∷ (0b110, Instr.Helper)
     ∷ (0b111, Instr.Helper)
-    ∷ [])
-    (funct3 w) itself Instr.Uncovered
+    ∷ []
+
+unfoldable pub quadrant2 : Bool → ℕ → Instr
+unfolding table2
+quadrant2 e w = lookup (table2 e w) (funct3 w) itself Instr.Uncovered
 
 -- ---- by inst[1:0]
 
-unfoldable pub decode16 : Bool → ℕ → Instr
+unfoldable pub quadrants : Bool → ℕ → Table Instr
 unfolding quadrant0 quadrant1 quadrant2
-decode16 e w =
-    lookup
-    ((0b00, quadrant0 w)
+quadrants e w =
+    (0b00, quadrant0 w)
     ∷ (0b01, quadrant1 w)
     ∷ (0b10, quadrant2 e w)
-    ∷ [])
-    (inst 1 0 w) itself Instr.Uncovered
+    ∷ []
+
+unfoldable pub decode16 : Bool → ℕ → Instr
+unfolding quadrants
+decode16 e w = lookup (quadrants e w) (w % 4) itself Instr.Uncovered

@@ -1,0 +1,23 @@
+-- Laws of the decoder's tables.
+use mathlib.Core.Bool.{Bool, true, false, cond}
+use mathlib.Core.Path.{_≡_, refl}
+use mathlib.Core.List.{List, [], _∷_}
+use Prim.Native.Nat.{ℕ, _<_}
+use lib.Dec.{eqb}
+use borrow.Author.Tests.{ne-eqb}
+use Rattle.rv64.specs.declared.decode.Instr.{Instr}
+use Rattle.rv64.specs.Decode.{Table, lookup}
+
+-- n is no key of the table, as the last arm of a `match` on the keys has it; P: what stands before that
+abbrev pub Missed : {A : Type 0} → Type 0 → Table A → ℕ → Type 0
+Missed P [] n = P
+Missed P ((k, a) ∷ t) n = Missed (P × (n ≡ k → ⊥)) t n
+
+module _ {A : Type 0} (n : ℕ) (make : A → Instr) (other : Instr) where
+  missed-after : (P : Type 0) (t : Table A) → Missed P t n → P × (other ≡ lookup t n make other)
+  missed-after P [] h = (h, refl)
+  missed-after P ((k, a) ∷ t) h =
+      let q = missed-after (P × (n ≡ k → ⊥)) t h in (q .0 .0, rw (ne-eqb n k (q .0 .1)) (q .1))
+
+  pub missed : (P : Type 0) (t : Table A) → Missed P t n → other ≡ lookup t n make other
+  missed P t h = missed-after P t h .1

@@ -1,0 +1,58 @@
+use borrow.Author.Needs.{needs}
+use Rattle.rv64.proofs.compressed.ebreak_jalr_add.Statement.{statement}
+use Rattle.rv64.proofs.compressed.ebreak_jalr_add.Tie as tie
+use Rattle.rv64.proofs.compressed.ebreak_jalr_add.Reads as reads
+use Rattle.rv64.proofs.compressed.ebreak_jalr_add.Lts as lts
+use Rattle.rv64.proofs.compressed.rd.Reads as rd-reads
+use Rattle.rv64.proofs.compressed.rs2.Reads as rs2-reads
+use Rattle.rv64.proofs.compressed.unless0.Reads as unless0-reads
+
+-- src/compressed.rt:134:9
+rd-requires : tie.Need-rd-requires
+rd-requires c κs = search needs
+
+-- src/compressed.rt:135:8
+rs2-requires : tie.Need-rs2-requires
+rs2-requires c κs = search needs
+
+-- src/compressed.rt:136:24
+cast-unless0 : tie.Need-cast-unless0
+cast-unless0 c = search needs
+
+-- src/compressed.rt:136:60
+rs2-requires-2 : tie.Need-rs2-requires-2
+rs2-requires-2 c κs = search needs
+
+-- src/compressed.rt:136:9
+unless0-requires : tie.Need-unless0-requires
+unless0-requires c κs = search needs
+
+-- src/compressed.rt:136:9
+returns : tie.Need-returns
+returns c = ?
+
+-- src/compressed.rt:139:9
+returns-2 : tie.Need-returns-2
+returns-2 c = ?
+
+-- src/compressed.rt:131:1
+returns-3 : tie.Need-returns-3
+returns-3 c = ?
+
+-- src/compressed.rt:131:1
+returns-4 : tie.Need-returns-4
+returns-4 c = ?
+
+pub ebreak-jalr-add-spec : {M : Type 1} → statement M
+ebreak-jalr-add-spec =
+    tie.close
+    (tie.spec
+    rd-requires
+    rs2-requires
+    cast-unless0
+    rs2-requires-2
+    unless0-requires
+    returns
+    returns-2
+    returns-3
+    returns-4)

@@ -1,0 +1,24 @@
+use borrow.Author.Needs.{needs}
+use Rattle.rv64.proofs.execute.read.Statement.{statement}
+use Rattle.rv64.proofs.execute.read.Tie as tie
+use Rattle.rv64.proofs.execute.read.Reads as reads
+use Rattle.rv64.proofs.execute.read.Lts as lts
+
+-- src/execute.rt:23:9
+returns : tie.Need-returns
+returns c = ?
+
+-- src/execute.rt:26:5
+mul-result : tie.Need-mul-result
+mul-result c = search needs
+
+-- src/execute.rt:26:5
+element-copy-out-result : tie.Need-element-copy-out-result
+element-copy-out-result c = search needs
+
+-- src/execute.rt:18:1
+returns-2 : tie.Need-returns-2
+returns-2 c = ?
+
+pub read-spec : {M : Type 1} → statement M
+read-spec = tie.close (tie.spec returns mul-result element-copy-out-result returns-2)

@@ -1,0 +1,62 @@
+use borrow.Author.Needs.{needs}
+use Rattle.rv64.proofs.run.refusal_of.Statement.{statement}
+use Rattle.rv64.proofs.run.refusal_of.Tie as tie
+use Rattle.rv64.proofs.run.refusal_of.Reads as reads
+use Rattle.rv64.proofs.run.refusal_of.Lts as lts
+use Rattle.rv64.proofs.run.covered.Reads as covered-reads
+use Rattle.rv64.proofs.run.fetch.Reads as fetch-reads
+
+-- src/run.rt:133:9
+returns : tie.Need-returns
+returns c = ?
+
+-- src/run.rt:136:9
+returns-2 : tie.Need-returns-2
+returns-2 c = ?
+
+-- src/run.rt:138:11
+fetch-requires : tie.Need-fetch-requires
+fetch-requires c κs = search needs
+
+-- src/run.rt:139:29
+enum-told : tie.Need-enum-told
+enum-told c = search needs
+
+-- src/run.rt:140:24
+enum-known-i : tie.Need-enum-known-i
+enum-known-i c = search needs
+
+-- src/run.rt:141:17
+covered-requires : tie.Need-covered-requires
+covered-requires c κs = search needs
+
+-- src/run.rt:142:17
+returns-3 : tie.Need-returns-3
+returns-3 c = ?
+
+-- src/run.rt:145:17
+returns-4 : tie.Need-returns-4
+returns-4 c = ?
+
+-- src/run.rt:129:1
+returns-5 : tie.Need-returns-5
+returns-5 c = ?
+
+-- src/run.rt:129:1
+returns-6 : tie.Need-returns-6
+returns-6 c = ?
+
+pub refusal-of-spec : {M : Type 1} → statement M
+refusal-of-spec =
+    tie.close
+    (tie.spec
+    returns
+    returns-2
+    fetch-requires
+    enum-told
+    enum-known-i
+    covered-requires
+    returns-3
+    returns-4
+    returns-5
+    returns-6)
