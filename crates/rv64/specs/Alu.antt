@@ -18,11 +18,14 @@ sextw x = sext 32 x
 -- M, 'Semantics for division by zero and division overflow'. least: the least signed number of the width, as 64 bits;
 -- most: the greatest unsigned one
 
+abbrev pub overflows : ℕ → ℕ → ℕ → Bool
+overflows least x y = eqb x least && eqb y (2 ^ 64 - 1)
+
 unfoldable pub quotient : ℕ → ℕ → ℕ → ℕ
-quotient least x y = cond (eqb y 0) (2 ^ 64 - 1) (cond (eqb x least && eqb y (2 ^ 64 - 1)) x (sdiv x y))
+quotient least x y = cond (eqb y 0) (2 ^ 64 - 1) (cond (overflows least x y) x (sdiv x y))
 
 unfoldable pub remainder : ℕ → ℕ → ℕ → ℕ
-remainder least x y = cond (eqb y 0) x (cond (eqb x least && eqb y (2 ^ 64 - 1)) 0 (srem x y))
+remainder least x y = cond (eqb y 0) x (cond (overflows least x y) 0 (srem x y))
 
 unfoldable pub quotientU : ℕ → ℕ → ℕ → ℕ
 quotientU most x y = cond (eqb y 0) most (x / y)

@@ -55,14 +55,24 @@ fn sextw(x: u64) -> u64
     word::sext(x, 32)
 }
 
-// The signed quotient; least is the least number of the width.
+// Whether a signed quotient overflows; least is the least number of the width.
+fn overflows(least: u64, x: u64, y: u64) -> bool
+    ensures { λ r. ⌜ r ≡ N.overflows least x y ⌝ }
+{
+    if x != least {
+        return false;
+    }
+    y == 0xFFFF_FFFF_FFFF_FFFF
+}
+
+// The signed quotient.
 fn quotient(least: u64, x: u64, y: u64) -> u64
     ensures { λ r. ⌜ r ≡ N.quotient least x y ⌝ }
 {
     if y == 0 {
         return 0xFFFF_FFFF_FFFF_FFFF;
     }
-    if x == least && y == 0xFFFF_FFFF_FFFF_FFFF {
+    if overflows(least, x, y) {
         return x;
     }
     word::sdiv(x, y)
@@ -74,7 +84,7 @@ fn remainder(least: u64, x: u64, y: u64) -> u64
     if y == 0 {
         return x;
     }
-    if x == least && y == 0xFFFF_FFFF_FFFF_FFFF {
+    if overflows(least, x, y) {
         return 0;
     }
     word::srem(x, y)
@@ -143,6 +153,6 @@ pub fn taken(k: Cond, x: u64, y: u64) -> bool
         Cond::Lt => word::slt(x, y),
         Cond::Ge => !word::slt(x, y),
         Cond::Ltu => x < y,
-        Cond::Geu => y <= x,
+        Cond::Geu => !(x < y),
     }
 }

@@ -1,6 +1,6 @@
 // A block's run, and the operation RV64 run.
 ghost use mathlib.Core.Path.{_≡_};
-ghost use Prim.Native.Nat.{_+_, _≤_};
+ghost use Prim.Native.Nat.{_+_, _≤_, _<_};
 ghost use lib.ListN.{length, drop, getD};
 ghost use Rattle.rv64.specs.Run as R;
 use crate::compressed::decode16;
@@ -54,12 +54,18 @@ pub struct Answer {
 // The most instructions of a block.
 const MOST: u32 = 64;
 
+fn wide(b: u8) -> u16
+    ensures { λ r. ⌜ (r ≡ b) × (r < 256) ⌝ }
+{
+    b as u16
+}
+
 // The halfword of bytes at and at + 1.
 fn halfword(guest: &[u8], at: usize) -> u16
     requires { ⌜ at + 2 ≤ length (now guest) ⌝ }
     ensures { λ r. ⌜ r ≡ R.halfword (drop at (now (guest .entry))) ⌝ }
 {
-    guest[at] as u16 + guest[at + 1] as u16 * 256
+    wide(guest[at]) + wide(guest[at + 1]) * 256
 }
 
 // The instruction at a place in the guest bytes.
@@ -119,9 +125,16 @@ fn covered(i: Instr) -> bool
     ensures { λ r. ⌜ r ≡ R.covered i ⌝ }
 {
     match i {
+        Instr::Op(_, _, _, _) => true,
+        Instr::OpImm(_, _, _, _) => true,
+        Instr::Lui(_, _) => true,
+        Instr::Auipc(_, _) => true,
+        Instr::Jal(_, _) => true,
+        Instr::Jalr(_, _, _) => true,
+        Instr::Branch(_, _, _, _) => true,
+        Instr::Nop => true,
         Instr::Helper => false,
         Instr::Uncovered => false,
-        _ => true,
     }
 }
 

@@ -1,3 +1,5 @@
+use borrow.Author.Tests.{eq-eqb, ne-eqb, lt-ltb, le-ltb}
+use Rattle.rv64.specs.Compressed.{ebreakJalrAdd}
 use borrow.Author.Needs.{needs}
 use Rattle.rv64.proofs.compressed.ebreak_jalr_add.Statement.{statement}
 use Rattle.rv64.proofs.compressed.ebreak_jalr_add.Tie as tie
@@ -29,19 +31,23 @@ unless0-requires c κs = search needs
 
 -- src/compressed.rt:136:9
 returns : tie.Need-returns
-returns c = ?
+unfolding ebreakJalrAdd
+returns c = rw (c .unless0 .ensures, ← c .before .before .before .before .rd .ensures, c .before .rs22 .ensures, ← c .before .before .before .rs2 .ensures, ne-eqb _ _ (c .before .before .if1 .taken))
 
 -- src/compressed.rt:139:9
 returns-2 : tie.Need-returns-2
-returns-2 c = ?
+unfolding ebreakJalrAdd
+returns-2 c = rw (← c .before .before .before .rd .ensures, ← c .before .before .rs2 .ensures, eq-eqb _ _ (c .before .if1 .left), ne-eqb _ _ (c .if2 .taken))
 
 -- src/compressed.rt:131:1
 returns-3 : tie.Need-returns-3
-returns-3 c = ?
+unfolding ebreakJalrAdd
+returns-3 c = rw (← c .before .before .before .before .rd .ensures, ← c .before .before .before .rs2 .ensures, eq-eqb _ _ (c .before .before .if1 .left), eq-eqb _ _ (c .before .if2 .left), c .if3 .taken)
 
 -- src/compressed.rt:131:1
 returns-4 : tie.Need-returns-4
-returns-4 c = ?
+unfolding ebreakJalrAdd
+returns-4 c = rw (← c .before .before .before .before .rd .ensures, ← c .before .before .before .rs2 .ensures, eq-eqb _ _ (c .before .before .if1 .left), eq-eqb _ _ (c .before .if2 .left), c .if3 .left)
 
 pub ebreak-jalr-add-spec : {M : Type 1} → statement M
 ebreak-jalr-add-spec =

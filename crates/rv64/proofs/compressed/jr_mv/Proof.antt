@@ -1,3 +1,5 @@
+use borrow.Author.Tests.{eq-eqb, ne-eqb, lt-ltb, le-ltb}
+use Rattle.rv64.specs.Compressed.{jrMv}
 use borrow.Author.Needs.{needs}
 use Rattle.rv64.proofs.compressed.jr_mv.Statement.{statement}
 use Rattle.rv64.proofs.compressed.jr_mv.Tie as tie
@@ -25,7 +27,8 @@ unless0-requires c κs = search needs
 
 -- src/compressed.rt:125:9
 returns : tie.Need-returns
-returns c = ?
+unfolding jrMv
+returns c = rw (c .unless0 .ensures, ← c .before .before .before .rd .ensures, ← c .before .before .rs2 .ensures, eq-eqb _ _ (c .before .if1 .taken))
 
 -- src/compressed.rt:127:13
 cast-unless0-2 : tie.Need-cast-unless0-2
@@ -41,7 +44,8 @@ unless0-requires-2 c κs = search needs
 
 -- src/compressed.rt:120:1
 returns-2 : tie.Need-returns-2
-returns-2 c = ?
+unfolding jrMv
+returns-2 c = rw (c .unless02 .ensures, ← c .before .before .before .before .rd .ensures, c .before .rs22 .ensures, ← c .before .before .before .rs2 .ensures, ne-eqb _ _ (c .before .before .if1 .left))
 
 pub jr-mv-spec : {M : Type 1} → statement M
 jr-mv-spec =

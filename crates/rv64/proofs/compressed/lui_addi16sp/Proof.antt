@@ -1,3 +1,5 @@
+use borrow.Author.Tests.{eq-eqb, ne-eqb, lt-ltb, le-ltb}
+use Rattle.rv64.specs.Compressed.{luiAddi16sp}
 use borrow.Author.Needs.{needs}
 use Rattle.rv64.proofs.compressed.lui_addi16sp.Statement.{statement}
 use Rattle.rv64.proofs.compressed.lui_addi16sp.Tie as tie
@@ -22,7 +24,8 @@ unless0-requires c κs = search needs
 
 -- src/compressed.rt:97:9
 returns : tie.Need-returns
-returns c = ?
+unfolding luiAddi16sp
+returns c = rw (c .unless0 .ensures, c .before .imm-ci16 .ensures, ← c .before .before .before .rd .ensures, eq-eqb _ _ (c .before .before .if1 .taken))
 
 -- src/compressed.rt:99:9
 imm-ci-requires : tie.Need-imm-ci-requires
@@ -42,7 +45,8 @@ unless0-requires-3 c κs = search needs
 
 -- src/compressed.rt:91:1
 returns-2 : tie.Need-returns-2
-returns-2 c = ?
+unfolding luiAddi16sp
+returns-2 c = rw (c .unless03 .ensures, c .before .unless02 .ensures, c .before .before .imm-ci .ensures, ← c .before .before .before .before .rd .ensures, ne-eqb _ _ (c .before .before .before .if1 .left))
 
 pub lui-addi16sp-spec : {M : Type 1} → statement M
 lui-addi16sp-spec =

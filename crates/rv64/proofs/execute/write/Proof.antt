@@ -1,3 +1,5 @@
+use borrow.Author.Tests.{eq-eqb, ne-eqb, lt-ltb, le-ltb}
+use Rattle.rv64.specs.Execute.{write}
 use borrow.Author.Needs.{needs}
 use Rattle.rv64.proofs.execute.write.Statement.{statement}
 use Rattle.rv64.proofs.execute.write.Tie as tie
@@ -6,7 +8,8 @@ use Rattle.rv64.proofs.execute.write.Lts as lts
 
 -- src/execute.rt:34:9
 returns : tie.Need-returns
-returns c = ?
+unfolding write
+returns c = rw (eq-eqb _ _ (c .if1 .taken))
 
 -- src/execute.rt:37:5
 mul-x : tie.Need-mul-x
@@ -18,7 +21,8 @@ element-write-x c = search needs
 
 -- src/execute.rt:29:1
 returns-2 : tie.Need-returns-2
-returns-2 c = ?
+unfolding write
+returns-2 c = rw (ne-eqb _ _ (c .if1 .left))
 
 pub write-spec : {M : Type 1} → statement M
 write-spec = tie.close (tie.spec returns mul-x element-write-x returns-2)

@@ -3,36 +3,37 @@ use Rattle.rv64.proofs.run.halfword.Statement.{statement}
 use Rattle.rv64.proofs.run.halfword.Tie as tie
 use Rattle.rv64.proofs.run.halfword.Reads as reads
 use Rattle.rv64.proofs.run.halfword.Lts as lts
+use Rattle.rv64.proofs.run.wide.Reads as wide-reads
 
--- src/run.rt:62:5
-shared-slice-read-result : tie.Need-shared-slice-read-result
-shared-slice-read-result c = search needs
+-- src/run.rt:68:10
+shared-slice-read-wide : tie.Need-shared-slice-read-wide
+shared-slice-read-wide c = search needs
 
--- src/run.rt:62:5
-cast-result : tie.Need-cast-result
-cast-result c = ?
+-- src/run.rt:68:5
+wide-requires : tie.Need-wide-requires
+wide-requires c κs = search needs
 
--- src/run.rt:62:30
+-- src/run.rt:68:34
+add-wide : tie.Need-add-wide
+add-wide c = search needs
+
+-- src/run.rt:68:28
+shared-slice-read-wide-2 : tie.Need-shared-slice-read-wide-2
+shared-slice-read-wide-2 c = search needs
+
+-- src/run.rt:68:23
+wide-requires-2 : tie.Need-wide-requires-2
+wide-requires-2 c κs = search needs
+
+-- src/run.rt:68:23
+mul-result : tie.Need-mul-result
+mul-result c = search needs
+
+-- src/run.rt:68:5
 add-result : tie.Need-add-result
 add-result c = search needs
 
--- src/run.rt:62:24
-shared-slice-read-result-2 : tie.Need-shared-slice-read-result-2
-shared-slice-read-result-2 c = search needs
-
--- src/run.rt:62:24
-cast-result-2 : tie.Need-cast-result-2
-cast-result-2 c = ?
-
--- src/run.rt:62:24
-mul-result : tie.Need-mul-result
-mul-result c = ?
-
--- src/run.rt:62:5
-add-result-2 : tie.Need-add-result-2
-add-result-2 c = ?
-
--- src/run.rt:58:1
+-- src/run.rt:64:1
 returns : tie.Need-returns
 returns c = ?
 
@@ -40,11 +41,11 @@ pub halfword-spec : {M : Type 1} → statement M
 halfword-spec =
     tie.close
     (tie.spec
-    shared-slice-read-result
-    cast-result
-    add-result
-    shared-slice-read-result-2
-    cast-result-2
+    shared-slice-read-wide
+    wide-requires
+    add-wide
+    shared-slice-read-wide-2
+    wide-requires-2
     mul-result
-    add-result-2
+    add-result
     returns)

@@ -1,3 +1,4 @@
+use Rattle.rv64.specs.Run.{number}
 use borrow.Author.Needs.{needs}
 use Rattle.rv64.proofs.run.number.Statement.{statement}
 use Rattle.rv64.proofs.run.number.Tie as tie
@@ -30,27 +31,33 @@ enum-told-6 c = search needs
 
 -- src/run.rt:153:1
 returns : tie.Need-returns
-returns c = ?
+unfolding number
+returns c = rw (c .enum-told .given .1)
 
 -- src/run.rt:153:1
 returns-2 : tie.Need-returns-2
-returns-2 c = ?
+unfolding number
+returns-2 c = rw (c .enum-told2 .given .1)
 
 -- src/run.rt:153:1
 returns-3 : tie.Need-returns-3
-returns-3 c = ?
+unfolding number
+returns-3 c = rw (c .enum-told3 .given .1)
 
 -- src/run.rt:153:1
 returns-4 : tie.Need-returns-4
-returns-4 c = ?
+unfolding number
+returns-4 c = rw (c .enum-told4 .given .1)
 
 -- src/run.rt:153:1
 returns-5 : tie.Need-returns-5
-returns-5 c = ?
+unfolding number
+returns-5 c = rw (c .enum-told5 .given .1)
 
 -- src/run.rt:153:1
 returns-6 : tie.Need-returns-6
-returns-6 c = ?
+unfolding number
+returns-6 c = rw (c .enum-told6 .given .1)
 
 pub number-spec : {M : Type 1} → statement M
 number-spec =
