@@ -35,7 +35,6 @@ remainderU x y = cond (eqb y 0) x (x % y)
 
 -- a shift's count is the low six bits of its second operand, or the low five in a W instruction
 unfoldable pub value : Alu → ℕ → ℕ → ℕ
-unfolding quotient remainder quotientU remainderU
 -- RV64I
 value Alu.Add x y = add x y
 value Alu.Sub x y = sub x y

@@ -28,7 +28,6 @@ itself i = i
 -- ---- quadrant 0: C.ADDI4SPN; C.LW, C.LD, C.SW, C.SD are a helper's
 
 unfoldable pub table0 : ℕ → Table Instr
-unfolding unless0
 table0 w =
     (0b000, unless0 (immCIW w) (Instr.OpImm Alu.Add (lowReg w) 2 (immCIW w)))
     ∷ (0b010, Instr.Helper)
@@ -38,7 +37,6 @@ table0 w =
     ∷ []
 
 unfoldable pub quadrant0 : ℕ → Instr
-unfolding table0
 quadrant0 w = lookup (table0 w) (funct3 w) itself Instr.Uncovered
 
 -- ---- quadrant 1
@@ -58,12 +56,10 @@ ariths =
     ∷ []
 
 unfoldable pub arith : ℕ → Instr
-unfolding ariths
 arith w = lookup ariths (inst 12 12 w * 4 + inst 6 5 w) (reg w) Instr.Uncovered
 
 -- by inst[11:10]: C.SRLI, C.SRAI, C.ANDI, and those above
 unfoldable pub miscAlus : ℕ → Table Instr
-unfolding arith
 miscAlus w =
     (0b00, Instr.OpImm Alu.Srl (highReg w) (highReg w) (shamtC w))
     ∷ (0b01, Instr.OpImm Alu.Sra (highReg w) (highReg w) (shamtC w))
@@ -72,19 +68,16 @@ miscAlus w =
     ∷ []
 
 unfoldable pub miscAlu : ℕ → Instr
-unfolding miscAlus
 miscAlu w = lookup (miscAlus w) (inst 11 10 w) itself Instr.Uncovered
 
 -- C.ADDI16SP where rd is 2, else C.LUI; both reserved with the immediate 0, C.LUI refused with rd 0
 unfoldable pub luiAddi16sp : ℕ → Instr
-unfolding unless0
 luiAddi16sp w =
     cond (eqb (rd w) 2) (unless0 (immCI16 w) (Instr.OpImm Alu.Add 2 2 (immCI16 w)))
     (unless0 (rd w) (unless0 (immCI w) (Instr.Lui (rd w) (shl (immCI w) 12))))
 
 -- C.NOP and C.ADDI, C.ADDIW (reserved with rd 0), C.LI, C.ADDI16SP and C.LUI, those above, C.J, C.BEQZ, C.BNEZ
 unfoldable pub table1 : ℕ → Table Instr
-unfolding unless0 luiAddi16sp miscAlu
 table1 w =
     (0b000, Instr.OpImm Alu.Add (rd w) (rd w) (immCI w))
     ∷ (0b001, unless0 (rd w) (Instr.OpImm Alu.Addw (rd w) (rd w) (immCI w)))
@@ -97,40 +90,34 @@ table1 w =
     ∷ []
 
 unfoldable pub quadrant1 : ℕ → Instr
-unfolding table1
 quadrant1 w = lookup (table1 w) (funct3 w) itself Instr.Uncovered
 
 -- ---- quadrant 2; e: C.EBREAK does nothing
 
 -- C.JR (reserved with rs1 0) where rs2 is 0, else C.MV (refused with rd 0)
 unfoldable pub jrMv : ℕ → Instr
-unfolding unless0
 jrMv w =
     cond (eqb (rs2 w) 0) (unless0 (rd w) (Instr.Jalr 0 (rd w) 0))
     (unless0 (rd w) (Instr.Op Alu.Add (rd w) 0 (rs2 w)))
 
 -- C.EBREAK where both are 0, C.JALR where rs2 is 0, else C.ADD (refused with rd 0)
 unfoldable pub ebreakJalrAdd : Bool → ℕ → Instr
-unfolding unless0
 ebreakJalrAdd e w =
     cond (eqb (rs2 w) 0) (cond (eqb (rd w) 0) (cond e Instr.Nop Instr.Uncovered) (Instr.Jalr 1 (rd w) 0))
     (unless0 (rd w) (Instr.Op Alu.Add (rd w) (rd w) (rs2 w)))
 
 -- by inst[12]
 unfoldable pub crs : Bool → ℕ → Table Instr
-unfolding jrMv ebreakJalrAdd
 crs e w =
     (0b0, jrMv w)
     ∷ (0b1, ebreakJalrAdd e w)
     ∷ []
 
 unfoldable pub cr : Bool → ℕ → Instr
-unfolding crs
 cr e w = lookup (crs e w) (inst 12 12 w) itself Instr.Uncovered
 
 -- C.SLLI (refused with rd 0), those above; C.LWSP, C.LDSP, C.SWSP, C.SDSP are a helper's
 unfoldable pub table2 : Bool → ℕ → Table Instr
-unfolding unless0 cr
 table2 e w =
     (0b000, unless0 (rd w) (Instr.OpImm Alu.Sll (rd w) (rd w) (shamtC w)))
     ∷ (0b010, Instr.Helper)
@@ -141,13 +128,11 @@ table2 e w =
     ∷ []
 
 unfoldable pub quadrant2 : Bool → ℕ → Instr
-unfolding table2
 quadrant2 e w = lookup (table2 e w) (funct3 w) itself Instr.Uncovered
 
 -- ---- by inst[1:0]
 
 unfoldable pub quadrants : Bool → ℕ → Table Instr
-unfolding quadrant0 quadrant1 quadrant2
 quadrants e w =
     (0b00, quadrant0 w)
     ∷ (0b01, quadrant1 w)
@@ -155,5 +140,4 @@ quadrants e w =
     ∷ []
 
 unfoldable pub decode16 : Bool → ℕ → Instr
-unfolding quadrants
 decode16 e w = lookup (quadrants e w) (w % 4) itself Instr.Uncovered

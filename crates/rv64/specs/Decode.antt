@@ -124,31 +124,24 @@ abbrev pub on : ℕ → Cond → Instr
 on w k = Instr.Branch k (rs1 w) (rs2 w) (immB w)
 
 unfoldable pub op : ℕ → Instr
-unfolding ops
 op w = lookup ops (funct10 w) (reg w) Instr.Uncovered
 
 unfoldable pub op32 : ℕ → Instr
-unfolding ops32
 op32 w = lookup ops32 (funct10 w) (reg w) Instr.Uncovered
 
 unfoldable pub shiftImm : ℕ → Instr
-unfolding shifts
 shiftImm w = lookup shifts (inst 31 26 w * 8 + funct3 w) (shift w) Instr.Uncovered
 
 unfoldable pub opImm : ℕ → Instr
-unfolding imms shiftImm
 opImm w = lookup imms (funct3 w) (imm w) (shiftImm w)
 
 unfoldable pub shiftImm32 : ℕ → Instr
-unfolding shifts32
 shiftImm32 w = lookup shifts32 (funct10 w) (shiftw w) Instr.Uncovered
 
 unfoldable pub opImm32 : ℕ → Instr
-unfolding imms32 shiftImm32
 opImm32 w = lookup imms32 (funct3 w) (imm w) (shiftImm32 w)
 
 unfoldable pub branch : ℕ → Instr
-unfolding branches
 branch w = lookup branches (funct3 w) (on w) Instr.Uncovered
 
 -- i where funct3 is below n
@@ -159,7 +152,6 @@ below w n i = cond (ltb (funct3 w) n) i Instr.Uncovered
 -- LWU (LOAD, funct3 0 to 6), SB, SH, SW and SD (STORE, funct3 0 to 3), floating-point loads and stores and the atomics
 -- are a helper's (document 01, source readings and rule 4)
 unfoldable pub byClass : Class → ℕ → Instr
-unfolding op op32 opImm opImm32 branch below
 byClass Class.Op w = op w
 byClass Class.OpImm w = opImm w
 byClass Class.Op32 w = op32 w
@@ -179,5 +171,4 @@ byClass Class.System w = Instr.Uncovered
 byClass Class.Other w = Instr.Uncovered
 
 unfoldable pub decode32 : ℕ → Instr
-unfolding byClass classOf
 decode32 w = byClass (classOf (opcode w)) w

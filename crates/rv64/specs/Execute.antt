@@ -31,7 +31,6 @@ ended x pc = record { x = x; flow = Flow.Ended pc }
 -- an instruction of n bytes at pc. JAL and JALR put the address behind them in rd; JALR reads rs1 before that, and clears
 -- bit 0 of the sum. A jump or a branch ends the block (document 01, rule 5)
 unfoldable pub exec : Instr → ℕ → ℕ → List ℕ → Step
-unfolding read write value taken
 exec (Instr.Op k rd rs1 rs2) n pc x = next (write x rd (value k (read x rs1) (read x rs2))) (add pc n)
 exec (Instr.OpImm k rd rs1 imm) n pc x = next (write x rd (value k (read x rs1) imm)) (add pc n)
 exec (Instr.Lui rd imm) n pc x = next (write x rd imm) (add pc n)

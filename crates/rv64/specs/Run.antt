@@ -21,20 +21,22 @@ covered i = X.covered i
 
 -- ---- fetching, from the bytes at the PC on ('Base Instruction-Length Encoding'; document 01, rule 1)
 
--- two bytes, the low one first
-abbrev pub halfword : List ℕ → ℕ
-halfword bs = getD bs 0 0 + getD bs 1 0 * 2 ^ 8
+-- the two bytes at k, the low one first
+abbrev pub halfword : List ℕ → ℕ → ℕ
+halfword bs k = getD bs k 0 + getD bs (k + 1) 0 * 2 ^ 8
 
--- four bytes
+-- the first two, and the first four
+abbrev pub half : List ℕ → ℕ
+half bs = halfword bs 0
+
 abbrev pub word : List ℕ → ℕ
-word bs = halfword bs + halfword (drop 2 bs) * 2 ^ 16
+word bs = halfword bs 0 + halfword bs 2 * 2 ^ 16
 
 -- low two bits 11: 32 bits, else 16. A lone last byte is no halfword. e: C.EBREAK does nothing
 unfoldable pub fetch : Bool → List ℕ → Fetched
-unfolding decode16 decode32
 fetch e bs =
     cond (ltb (length bs) 2) Fetched.Missing
-    (cond (not (eqb (halfword bs % 4) 3)) (Fetched.Found (decode16 e (halfword bs)) 2)
+    (cond (not (eqb (half bs % 4) 3)) (Fetched.Found (decode16 e (half bs)) 2)
     (cond (ltb (length bs) 4) Fetched.Missing (Fetched.Found (decode32 (word bs)) 4)))
 
 -- ---- the run
@@ -53,7 +55,6 @@ onward Flow.Helper x h n go = stopped h n Stop.Helper
 onward Flow.Uncovered x h n go = stopped h n Stop.Uncovered
 
 unfoldable pub step : Fetched → Hart → ℕ → (ℕ → Hart → Ran) → Ran
-unfolding X.exec onward
 step Fetched.Missing h n go = stopped h n Stop.NotFetched
 step (Fetched.Found i size) h n go =
     onward (X.exec i size (h .pc) (h .x) .flow) (X.exec i size (h .pc) (h .x) .x) h n (go size)
@@ -61,7 +62,6 @@ step (Fetched.Found i size) h n go =
 -- at most k instructions after n others, one after another, from the bytes at the hart's PC on: inside a block the PC
 -- moves by the instruction's size alone, and so does the place in the bytes
 unfoldable pub run : Bool → ℕ → ℕ → List ℕ → Hart → Ran
-unfolding fetch step
 run e zero n bs h = stopped h n Stop.Limit
 run e (suc k) n bs h = step (fetch e bs) h n (λ (size : ℕ). run e k (n + 1) (drop size bs))
 
@@ -84,14 +84,12 @@ number Refusal.NotCovered = 5
 number Refusal.RegisterZero = 9
 
 unfoldable pub refusalFirst : Fetched → ℕ → Refusal
-unfolding X.covered
 refusalFirst Fetched.Missing x0 = Refusal.NotFetched
 refusalFirst (Fetched.Found i size) x0 =
     cond (covered i) (cond (eqb x0 0) Refusal.Accepted Refusal.RegisterZero) Refusal.NotCovered
 
 -- the lowest that applies; x0: what register 0 holds
 unfoldable pub refusalOf : List ℕ → ℕ → ℕ → Bool → ℕ → Refusal
-unfolding refusalFirst fetch
 refusalOf guest pc limit e x0 =
     cond (eqb limit 0) Refusal.LimitZero
     (cond (not (eqb (pc % 2) 0)) Refusal.OddPc (refusalFirst (fetch e guest) x0))
@@ -103,6 +101,5 @@ answerOf q x r =
     (record { refusal = q; hart = hart x 0; count = 0 })
 
 unfoldable pub answer : List ℕ → Hart → ℕ → Bool → Answer
-unfolding refusalOf answerOf run number
 answer guest h limit e =
     answerOf (refusalOf guest (h .pc) limit e (getD (h .x) 0 0)) (h .x) (run e (clamped limit) 0 guest h)

@@ -63,7 +63,7 @@ fn wide(b: u8) -> u16
 // The halfword of bytes at and at + 1.
 fn halfword(guest: &[u8], at: usize) -> u16
     requires { ⌜ at + 2 ≤ length (now guest) ⌝ }
-    ensures { λ r. ⌜ r ≡ R.halfword (drop at (now (guest .entry))) ⌝ }
+    ensures { λ r. ⌜ r ≡ R.halfword (now (guest .entry)) at ⌝ }
 {
     wide(guest[at]) + wide(guest[at + 1]) * 256
 }

@@ -1,3 +1,7 @@
+use borrow.Author.Tests.{eq-eqb, ne-eqb, lt-ltb, le-ltb}
+use lib.ListN.{length-drop}
+use Rattle.rv64.proofs.Fetching.{first, second}
+use Rattle.rv64.specs.Run.{fetch}
 use borrow.Author.Needs.{needs}
 use Rattle.rv64.proofs.run.fetch.Statement.{statement}
 use Rattle.rv64.proofs.run.fetch.Tie as tie
@@ -13,7 +17,8 @@ sub-left c = search needs
 
 -- src/run.rt:72:9
 returns : tie.Need-returns
-returns c = ?
+unfolding fetch
+returns c = rw (length-drop, lt-ltb _ _ (c .if1 .taken))
 
 -- src/run.rt:74:9
 halfword-requires : tie.Need-halfword-requires
@@ -25,11 +30,13 @@ decode16-requires c κs = search needs
 
 -- src/run.rt:76:9
 returns-2 : tie.Need-returns-2
-returns-2 c = ?
+unfolding fetch
+returns-2 c = rw (c .decode16 .ensures, length-drop, le-ltb _ _ (c .before .before .before .if1 .left), first, ← c .before .before .halfword .ensures, ne-eqb _ _ (c .before .if2 .taken))
 
 -- src/run.rt:79:9
 returns-3 : tie.Need-returns-3
-returns-3 c = ?
+unfolding fetch
+returns-3 c = rw (length-drop, le-ltb _ _ (c .before .before .before .if1 .left), first, ← c .before .before .halfword .ensures, eq-eqb _ _ (c .before .if2 .left), lt-ltb _ _ (c .if3 .taken))
 
 -- src/run.rt:81:32
 add-halfword : tie.Need-add-halfword
@@ -61,7 +68,8 @@ decode32-requires c κs = search needs
 
 -- src/run.rt:66:1
 returns-4 : tie.Need-returns-4
-returns-4 c = ?
+unfolding fetch
+returns-4 c = rw (c .decode32 .ensures, length-drop, le-ltb _ _ (c .before .before .before .before .before .if1 .left), first, second, ← c .before .before .before .before .halfword .ensures, ← c .before .halfword2 .ensures, eq-eqb _ _ (c .before .before .before .if2 .left), le-ltb _ _ (c .before .before .if3 .left))
 
 pub fetch-spec : {M : Type 1} → statement M
 fetch-spec =

@@ -35,7 +35,7 @@ add-result c = search needs
 
 -- src/run.rt:64:1
 returns : tie.Need-returns
-returns c = ?
+returns c = rw (c .wide2 .ensures .0, c .before .before .wide .ensures .0)
 
 pub halfword-spec : {M : Type 1} → statement M
 halfword-spec =
