@@ -47,17 +47,18 @@ hart x pc = record { x = x; pc = pc }
 abbrev pub stopped : Hart → ℕ → Stop → Ran
 stopped h n why = record { hart = h; count = n; stop = why }
 
--- after a step that left the registers x; h: the state before it, n: the instructions before it; go: how the run goes on
-unfoldable pub onward : Flow → List ℕ → Hart → ℕ → (Hart → Ran) → Ran
-onward (Flow.Next pc) x h n go = go (hart x pc)
-onward (Flow.Ended pc) x h n go = stopped (hart x pc) (n + 1) Stop.Ended
-onward Flow.Helper x h n go = stopped h n Stop.Helper
-onward Flow.Uncovered x h n go = stopped h n Stop.Uncovered
+-- after a step that left the registers x; pc: the step's PC, n: the instructions before it; go: how the run goes on. A
+-- helper's instruction and one that is not covered are not counted
+unfoldable pub onward : Flow → List ℕ → ℕ → ℕ → (Hart → Ran) → Ran
+onward (Flow.Next to) x pc n go = go (hart x to)
+onward (Flow.Ended to) x pc n go = stopped (hart x to) (n + 1) Stop.Ended
+onward Flow.Helper x pc n go = stopped (hart x pc) n Stop.Helper
+onward Flow.Uncovered x pc n go = stopped (hart x pc) n Stop.Uncovered
 
 unfoldable pub step : Fetched → Hart → ℕ → (ℕ → Hart → Ran) → Ran
 step Fetched.Missing h n go = stopped h n Stop.NotFetched
 step (Fetched.Found i size) h n go =
-    onward (X.exec i size (h .pc) (h .x) .flow) (X.exec i size (h .pc) (h .x) .x) h n (go size)
+    onward (X.exec i size (h .pc) (h .x) .flow) (X.exec i size (h .pc) (h .x) .x) (h .pc) n (go size)
 
 -- at most k instructions after n others, one after another, from the bytes at the hart's PC on: inside a block the PC
 -- moves by the instruction's size alone, and so does the place in the bytes

@@ -1,3 +1,5 @@
+use borrow.Author.Tests.{eq-eqb, ne-eqb}
+use Rattle.rv64.specs.Run.{answer, answerOf}
 use borrow.Author.Needs.{needs}
 use Rattle.rv64.proofs.run.rv64_run.Statement.{statement}
 use Rattle.rv64.proofs.run.rv64_run.Tie as tie
@@ -22,7 +24,8 @@ number-requires c κs = search needs
 
 -- src/run.rt:179:9
 returns : tie.Need-returns
-returns c = ?
+unfolding answer answerOf
+returns c = rw (← c .before .before .before .refusal-of .ensures, ← c .before .before .number .ensures, ne-eqb _ _ (c .before .if1 .taken))
 
 -- src/run.rt:181:24
 clamped-requires : tie.Need-clamped-requires
@@ -34,7 +37,8 @@ run-requires c κs = search needs
 
 -- src/run.rt:173:1
 returns-2 : tie.Need-returns-2
-returns-2 c = ?
+unfolding answer answerOf
+returns-2 c = rw (← c .before .before .before .before .before .refusal-of .ensures, ← c .before .before .before .before .number .ensures, eq-eqb _ _ (c .before .before .before .if1 .left), ← c .before .before .clamped .ensures, ← c .before .run .ensures)
 
 pub rv64-run-spec : {M : Type 1} → statement M
 rv64-run-spec =
