@@ -1,9 +1,10 @@
 -- A block's run by the ISA's definition, and the operation RV64 run of document 01. Definitions only.
 use mathlib.Core.Bool.{Bool, cond, not}
 use mathlib.Core.List.{List}
-use Prim.Native.Nat.{ℕ, zero, suc, _+_, _*_, _%_, _^_, min}
+use Prim.Native.Nat.{ℕ, zero, suc, _+_, _%_, min}
 use lib.Dec.{ltb, eqb}
 use lib.ListN.{length, drop, getD}
+use Rattle.le.specs.Le.{load}
 use Rattle.rv64.specs.declared.decode.Instr.{Instr}
 use Rattle.rv64.specs.declared.execute.Flow.{Flow}
 use Rattle.rv64.specs.declared.run.Hart.{Hart}
@@ -21,22 +22,18 @@ covered i = X.covered i
 
 -- ---- fetching, from the bytes at the PC on ('Base Instruction-Length Encoding'; document 01, rule 1)
 
--- the two bytes at k, the low one first
-abbrev pub halfword : List ℕ → ℕ → ℕ
-halfword bs k = getD bs k 0 + getD bs (k + 1) 0 * 2 ^ 8
-
--- the first two, and the first four
-abbrev pub half : List ℕ → ℕ
-half bs = halfword bs 0
+-- the first two bytes, and the first four
+abbrev pub halfword : List ℕ → ℕ
+halfword bs = load 2 bs 0
 
 abbrev pub word : List ℕ → ℕ
-word bs = halfword bs 0 + halfword bs 2 * 2 ^ 16
+word bs = load 4 bs 0
 
 -- low two bits 11: 32 bits, else 16. A lone last byte is no halfword. e: C.EBREAK does nothing
 unfoldable pub fetch : Bool → List ℕ → Fetched
 fetch e bs =
     cond (ltb (length bs) 2) Fetched.Missing
-    (cond (not (eqb (half bs % 4) 3)) (Fetched.Found (decode16 e (half bs)) 2)
+    (cond (not (eqb (halfword bs % 4) 3)) (Fetched.Found (decode16 e (halfword bs)) 2)
     (cond (ltb (length bs) 4) Fetched.Missing (Fetched.Found (decode32 (word bs)) 4)))
 
 -- ---- the run

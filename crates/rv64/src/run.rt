@@ -1,6 +1,6 @@
 // A block's run, and the operation RV64 run.
 ghost use mathlib.Core.Path.{_≡_};
-ghost use Prim.Native.Nat.{_+_, _≤_, _<_};
+ghost use Prim.Native.Nat.{_≤_};
 ghost use lib.ListN.{length, drop, getD};
 ghost use Rattle.rv64.specs.Run as R;
 use crate::compressed::decode16;
@@ -54,20 +54,6 @@ pub struct Answer {
 // The most instructions of a block.
 const MOST: u32 = 64;
 
-fn wide(b: u8) -> u16
-    ensures { λ r. ⌜ (r ≡ b) × (r < 256) ⌝ }
-{
-    b as u16
-}
-
-// The halfword of bytes at and at + 1.
-fn halfword(guest: &[u8], at: usize) -> u16
-    requires { ⌜ at + 2 ≤ length (now guest) ⌝ }
-    ensures { λ r. ⌜ r ≡ R.halfword (now (guest .entry)) at ⌝ }
-{
-    wide(guest[at]) + wide(guest[at + 1]) * 256
-}
-
 // The instruction at a place in the guest bytes.
 pub fn fetch(guest: &[u8], at: usize, ignore_ebreak: bool) -> Fetched
     requires { ⌜ at ≤ length (now guest) ⌝ }
@@ -77,15 +63,14 @@ pub fn fetch(guest: &[u8], at: usize, ignore_ebreak: bool) -> Fetched
     if left < 2 {
         return Fetched::Missing;
     }
-    let low = halfword(guest, at);
+    let low = le::load16(guest, at);
     if low % 4 != 3 {
         return Fetched::Found(decode16(low, ignore_ebreak), 2);
     }
     if left < 4 {
         return Fetched::Missing;
     }
-    let high = halfword(guest, at + 2);
-    Fetched::Found(decode32(low as u32 + high as u32 * 65536), 4)
+    Fetched::Found(decode32(le::load32(guest, at)), 4)
 }
 
 // At most limit instructions, the first at the hart's PC.
