@@ -42,7 +42,8 @@ fn unless0(n: u64, i: Instr) -> Instr
 fn reg(w: u16, k: Alu) -> Instr
     ensures { λ r. ⌜ r ≡ C.reg w k ⌝ }
 {
-    Instr::Op(k, high_reg(w), high_reg(w), low_reg(w))
+    let d = high_reg(w);
+    Instr::Op(k, d, d, low_reg(w))
 }
 
 fn quadrant0(w: u16) -> Instr
@@ -78,10 +79,11 @@ fn arith(w: u16) -> Instr
 fn misc_alu(w: u16) -> Instr
     ensures { λ r. ⌜ r ≡ C.miscAlu w ⌝ }
 {
+    let d = high_reg(w);
     match w / 1024 % 4 {
-        0b00 => Instr::OpImm(Alu::Srl, high_reg(w), high_reg(w), isa::decode::shamt_c(w)),
-        0b01 => Instr::OpImm(Alu::Sra, high_reg(w), high_reg(w), isa::decode::shamt_c(w)),
-        0b10 => Instr::OpImm(Alu::And, high_reg(w), high_reg(w), isa::decode::imm_ci(w)),
+        0b00 => Instr::OpImm(Alu::Srl, d, d, isa::decode::shamt_c(w)),
+        0b01 => Instr::OpImm(Alu::Sra, d, d, isa::decode::shamt_c(w)),
+        0b10 => Instr::OpImm(Alu::And, d, d, isa::decode::imm_ci(w)),
         0b11 => arith(w),
         _ => Instr::Uncovered,
     }
@@ -103,10 +105,11 @@ fn lui_addi16sp(w: u16) -> Instr
 fn quadrant1(w: u16) -> Instr
     ensures { λ r. ⌜ r ≡ C.quadrant1 w ⌝ }
 {
+    let d = rd(w);
     match w / 8192 % 8 {
-        0b000 => Instr::OpImm(Alu::Add, rd(w), rd(w), isa::decode::imm_ci(w)),
-        0b001 => unless0(rd(w) as u64, Instr::OpImm(Alu::Addw, rd(w), rd(w), isa::decode::imm_ci(w))),
-        0b010 => Instr::OpImm(Alu::Add, rd(w), 0, isa::decode::imm_ci(w)),
+        0b000 => Instr::OpImm(Alu::Add, d, d, isa::decode::imm_ci(w)),
+        0b001 => unless0(d as u64, Instr::OpImm(Alu::Addw, d, d, isa::decode::imm_ci(w))),
+        0b010 => Instr::OpImm(Alu::Add, d, 0, isa::decode::imm_ci(w)),
         0b011 => lui_addi16sp(w),
         0b100 => misc_alu(w),
         0b101 => Instr::Jal(0, isa::decode::imm_cj(w)),
@@ -121,10 +124,11 @@ fn jr_mv(w: u16) -> Instr
     ensures { λ r. ⌜ r ≡ C.jrMv w ⌝ }
 {
     let d = rd(w);
-    if rs2(w) == 0 {
+    let s = rs2(w);
+    if s == 0 {
         return unless0(d as u64, Instr::Jalr(0, d, 0));
     }
-    unless0(d as u64, Instr::Op(Alu::Add, d, 0, rs2(w)))
+    unless0(d as u64, Instr::Op(Alu::Add, d, 0, s))
 }
 
 // C.EBREAK, C.JALR and C.ADD.
@@ -132,8 +136,9 @@ fn ebreak_jalr_add(w: u16, ignore_ebreak: bool) -> Instr
     ensures { λ r. ⌜ r ≡ C.ebreakJalrAdd «ignore_ebreak» w ⌝ }
 {
     let d = rd(w);
-    if rs2(w) != 0 {
-        return unless0(d as u64, Instr::Op(Alu::Add, d, d, rs2(w)));
+    let s = rs2(w);
+    if s != 0 {
+        return unless0(d as u64, Instr::Op(Alu::Add, d, d, s));
     }
     if d != 0 {
         return Instr::Jalr(1, d, 0);
@@ -154,8 +159,9 @@ fn cr(w: u16, ignore_ebreak: bool) -> Instr
 fn quadrant2(w: u16, ignore_ebreak: bool) -> Instr
     ensures { λ r. ⌜ r ≡ C.quadrant2 «ignore_ebreak» w ⌝ }
 {
+    let d = rd(w);
     match w / 8192 % 8 {
-        0b000 => unless0(rd(w) as u64, Instr::OpImm(Alu::Sll, rd(w), rd(w), isa::decode::shamt_c(w))),
+        0b000 => unless0(d as u64, Instr::OpImm(Alu::Sll, d, d, isa::decode::shamt_c(w))),
         0b010 => Instr::Helper,
         0b011 => Instr::Helper,
         0b100 => cr(w, ignore_ebreak),

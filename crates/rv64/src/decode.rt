@@ -28,6 +28,12 @@ pub enum Instr {
     Uncovered,
 }
 
+// What a table of encodings has at a place.
+pub enum Entry {
+    Alu(Alu),
+    Reserved,
+}
+
 fn rd(w: u32) -> u32
     ensures { λ r. ⌜ r ≡ F.rd w ⌝ }
 {
@@ -90,47 +96,67 @@ fn on(w: u32, k: Cond) -> Instr
     Instr::Branch(k, rs1(w), rs2(w), isa::decode::imm_b(w))
 }
 
+// OP, by funct7 and funct3.
+fn op_table(n: u32) -> Entry
+    ensures { λ r. ⌜ r ≡ D.entry D.ops n ⌝ }
+{
+    match n {
+        0b0000000_000 => Entry::Alu(Alu::Add),
+        0b0100000_000 => Entry::Alu(Alu::Sub),
+        0b0000000_001 => Entry::Alu(Alu::Sll),
+        0b0000000_010 => Entry::Alu(Alu::Slt),
+        0b0000000_011 => Entry::Alu(Alu::Sltu),
+        0b0000000_100 => Entry::Alu(Alu::Xor),
+        0b0000000_101 => Entry::Alu(Alu::Srl),
+        0b0100000_101 => Entry::Alu(Alu::Sra),
+        0b0000000_110 => Entry::Alu(Alu::Or),
+        0b0000000_111 => Entry::Alu(Alu::And),
+        0b0000001_000 => Entry::Alu(Alu::Mul),
+        0b0000001_001 => Entry::Alu(Alu::Mulh),
+        0b0000001_010 => Entry::Alu(Alu::Mulhsu),
+        0b0000001_011 => Entry::Alu(Alu::Mulhu),
+        0b0000001_100 => Entry::Alu(Alu::Div),
+        0b0000001_101 => Entry::Alu(Alu::Divu),
+        0b0000001_110 => Entry::Alu(Alu::Rem),
+        0b0000001_111 => Entry::Alu(Alu::Remu),
+        _ => Entry::Reserved,
+    }
+}
+
 fn op(w: u32) -> Instr
     ensures { λ r. ⌜ r ≡ D.op w ⌝ }
 {
-    match funct10(w) {
-        0b0000000_000 => reg(w, Alu::Add),
-        0b0100000_000 => reg(w, Alu::Sub),
-        0b0000000_001 => reg(w, Alu::Sll),
-        0b0000000_010 => reg(w, Alu::Slt),
-        0b0000000_011 => reg(w, Alu::Sltu),
-        0b0000000_100 => reg(w, Alu::Xor),
-        0b0000000_101 => reg(w, Alu::Srl),
-        0b0100000_101 => reg(w, Alu::Sra),
-        0b0000000_110 => reg(w, Alu::Or),
-        0b0000000_111 => reg(w, Alu::And),
-        0b0000001_000 => reg(w, Alu::Mul),
-        0b0000001_001 => reg(w, Alu::Mulh),
-        0b0000001_010 => reg(w, Alu::Mulhsu),
-        0b0000001_011 => reg(w, Alu::Mulhu),
-        0b0000001_100 => reg(w, Alu::Div),
-        0b0000001_101 => reg(w, Alu::Divu),
-        0b0000001_110 => reg(w, Alu::Rem),
-        0b0000001_111 => reg(w, Alu::Remu),
-        _ => Instr::Uncovered,
+    match op_table(funct10(w)) {
+        Entry::Alu(k) => reg(w, k),
+        Entry::Reserved => Instr::Uncovered,
+    }
+}
+
+// OP-32, by funct7 and funct3.
+fn op_32_table(n: u32) -> Entry
+    ensures { λ r. ⌜ r ≡ D.entry D.ops32 n ⌝ }
+{
+    match n {
+        0b0000000_000 => Entry::Alu(Alu::Addw),
+        0b0100000_000 => Entry::Alu(Alu::Subw),
+        0b0000000_001 => Entry::Alu(Alu::Sllw),
+        0b0000000_101 => Entry::Alu(Alu::Srlw),
+        0b0100000_101 => Entry::Alu(Alu::Sraw),
+        0b0000001_000 => Entry::Alu(Alu::Mulw),
+        0b0000001_100 => Entry::Alu(Alu::Divw),
+        0b0000001_101 => Entry::Alu(Alu::Divuw),
+        0b0000001_110 => Entry::Alu(Alu::Remw),
+        0b0000001_111 => Entry::Alu(Alu::Remuw),
+        _ => Entry::Reserved,
     }
 }
 
 fn op_32(w: u32) -> Instr
     ensures { λ r. ⌜ r ≡ D.op32 w ⌝ }
 {
-    match funct10(w) {
-        0b0000000_000 => reg(w, Alu::Addw),
-        0b0100000_000 => reg(w, Alu::Subw),
-        0b0000000_001 => reg(w, Alu::Sllw),
-        0b0000000_101 => reg(w, Alu::Srlw),
-        0b0100000_101 => reg(w, Alu::Sraw),
-        0b0000001_000 => reg(w, Alu::Mulw),
-        0b0000001_100 => reg(w, Alu::Divw),
-        0b0000001_101 => reg(w, Alu::Divuw),
-        0b0000001_110 => reg(w, Alu::Remw),
-        0b0000001_111 => reg(w, Alu::Remuw),
-        _ => Instr::Uncovered,
+    match op_32_table(funct10(w)) {
+        Entry::Alu(k) => reg(w, k),
+        Entry::Reserved => Instr::Uncovered,
     }
 }
 
