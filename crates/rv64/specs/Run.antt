@@ -94,7 +94,7 @@ refusalOf guest pc limit e x0 =
 
 -- where refused, the registers as they were, and every other number 0
 unfoldable pub answerOf : Refusal → List ℕ → Ran → Answer
-answerOf q x r = 
+answerOf q x r =
     cond (eqb (number q) 0) (record { refusal = q; hart = r .hart; count = r .count })
     (record { refusal = q; hart = hart x 0; count = 0 })
 

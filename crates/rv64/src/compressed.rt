@@ -108,7 +108,10 @@ fn quadrant1(w: u16) -> Instr
     let d = rd(w);
     match w / 8192 % 8 {
         0b000 => Instr::OpImm(Alu::Add, d, d, isa::decode::imm_ci(w)),
-        0b001 => unless0(d as u64, Instr::OpImm(Alu::Addw, d, d, isa::decode::imm_ci(w))),
+        0b001 => unless0(
+            d as u64,
+            Instr::OpImm(Alu::Addw, d, d, isa::decode::imm_ci(w)),
+        ),
         0b010 => Instr::OpImm(Alu::Add, d, 0, isa::decode::imm_ci(w)),
         0b011 => lui_addi16sp(w),
         0b100 => misc_alu(w),
@@ -143,7 +146,11 @@ fn ebreak_jalr_add(w: u16, ignore_ebreak: bool) -> Instr
     if d != 0 {
         return Instr::Jalr(1, d, 0);
     }
-    if ignore_ebreak { Instr::Nop } else { Instr::Uncovered }
+    if ignore_ebreak {
+        Instr::Nop
+    } else {
+        Instr::Uncovered
+    }
 }
 
 fn cr(w: u16, ignore_ebreak: bool) -> Instr
@@ -161,7 +168,10 @@ fn quadrant2(w: u16, ignore_ebreak: bool) -> Instr
 {
     let d = rd(w);
     match w / 8192 % 8 {
-        0b000 => unless0(d as u64, Instr::OpImm(Alu::Sll, d, d, isa::decode::shamt_c(w))),
+        0b000 => unless0(
+            d as u64,
+            Instr::OpImm(Alu::Sll, d, d, isa::decode::shamt_c(w)),
+        ),
         0b010 => Instr::Helper,
         0b011 => Instr::Helper,
         0b100 => cr(w, ignore_ebreak),

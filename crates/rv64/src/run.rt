@@ -4,10 +4,10 @@ ghost use Prim.Native.Nat.{_≤_};
 ghost use lib.ListN.{length, drop, getD};
 ghost use Rattle.rv64.specs.Run as R;
 use crate::compressed::decode16;
-use crate::decode::decode32;
 use crate::decode::Instr;
-use crate::execute::execute;
+use crate::decode::decode32;
 use crate::execute::Flow;
+use crate::execute::execute;
 
 pub struct Hart {
     pub x: [u64; 32],
@@ -103,7 +103,11 @@ pub fn run(guest: &[u8], limit: u32, ignore_ebreak: bool, hart: Hart) -> Ran
         }
         n += 1;
     };
-    Ran { hart: h, count: n, stop }
+    Ran {
+        hart: h,
+        count: n,
+        stop,
+    }
 }
 
 fn covered(i: Instr) -> bool
@@ -174,9 +178,17 @@ pub fn rv64_run(guest: &[u8], hart: Hart, limit: u32, ignore_ebreak: bool) -> An
     let q = refusal_of(guest, hart.pc, limit, ignore_ebreak, hart.x[0]);
     if number(q) != 0 {
         let x = hart.x;
-        return Answer { refusal: q, hart: Hart { x, pc: 0 }, count: 0 };
+        return Answer {
+            refusal: q,
+            hart: Hart { x, pc: 0 },
+            count: 0,
+        };
     }
     let r = run(guest, clamped(limit), ignore_ebreak, hart);
     let h = r.hart;
-    Answer { refusal: q, hart: h, count: r.count }
+    Answer {
+        refusal: q,
+        hart: h,
+        count: r.count,
+    }
 }

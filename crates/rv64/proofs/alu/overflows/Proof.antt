@@ -1,14 +1,10 @@
 use borrow.Author.Tests.{eq-eqb, ne-eqb, lt-ltb, le-ltb}
 use Rattle.rv64.proofs.alu.overflows.Statement.{statement}
 use Rattle.rv64.proofs.alu.overflows.Tie as tie
-use Rattle.rv64.proofs.alu.overflows.Reads as reads
-use Rattle.rv64.proofs.alu.overflows.Lts as lts
 
--- src/alu.rt:63:9
 returns : tie.Need-returns
 returns c = rw (ne-eqb _ _ (c .if1 .taken))
 
--- src/alu.rt:59:1
 returns-2 : tie.Need-returns-2
 returns-2 c = rw (eq-eqb _ _ (c .if1 .left))
 

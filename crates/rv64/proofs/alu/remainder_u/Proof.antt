@@ -3,22 +3,14 @@ use Rattle.rv64.specs.Alu.{remainderU}
 use borrow.Author.Needs.{needs}
 use Rattle.rv64.proofs.alu.remainder_u.Statement.{statement}
 use Rattle.rv64.proofs.alu.remainder_u.Tie as tie
-use Rattle.rv64.proofs.alu.remainder_u.Reads as reads
-use Rattle.rv64.proofs.alu.remainder_u.Lts as lts
 
--- src/alu.rt:97:9
 returns : tie.Need-returns
 unfolding remainderU
 returns c = rw (eq-eqb _ _ (c .if1 .taken))
 
--- src/alu.rt:99:5
-rem-result : tie.Need-rem-result
-rem-result c = search needs
-
--- src/alu.rt:93:1
 returns-2 : tie.Need-returns-2
 unfolding remainderU
 returns-2 c = rw (ne-eqb _ _ (c .if1 .left))
 
 pub remainder-u-spec : {M : Type 1} → statement M
-remainder-u-spec = tie.close (tie.spec returns rem-result returns-2)
+remainder-u-spec = tie.close (tie.spec returns (λ c. search needs) returns-2)

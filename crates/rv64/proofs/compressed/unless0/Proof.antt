@@ -2,15 +2,11 @@ use borrow.Author.Tests.{eq-eqb, ne-eqb, lt-ltb, le-ltb}
 use Rattle.rv64.specs.Compressed.{unless0}
 use Rattle.rv64.proofs.compressed.unless0.Statement.{statement}
 use Rattle.rv64.proofs.compressed.unless0.Tie as tie
-use Rattle.rv64.proofs.compressed.unless0.Reads as reads
-use Rattle.rv64.proofs.compressed.unless0.Lts as lts
 
--- src/compressed.rt:36:1
 returns : tie.Need-returns
 unfolding unless0
 returns c = rw (eq-eqb _ _ (c .if1 .taken))
 
--- src/compressed.rt:36:1
 returns-2 : tie.Need-returns-2
 unfolding unless0
 returns-2 c = rw (ne-eqb _ _ (c .if1 .left))

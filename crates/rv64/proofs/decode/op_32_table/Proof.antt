@@ -3,60 +3,47 @@ use Rattle.rv64.specs.Decode.{ops32}
 use Rattle.rv64.proofs.Tables.{missed}
 use Rattle.rv64.proofs.decode.op_32_table.Statement.{statement}
 use Rattle.rv64.proofs.decode.op_32_table.Tie as tie
-use Rattle.rv64.proofs.decode.op_32_table.Reads as reads
-use Rattle.rv64.proofs.decode.op_32_table.Lts as lts
 
--- src/decode.rt:136:1
 returns : tie.Need-returns
 unfolding ops32
 returns c = rw (c .match .keys1)
 
--- src/decode.rt:136:1
 returns-2 : tie.Need-returns-2
 unfolding ops32
 returns-2 c = rw (c .match .keys2)
 
--- src/decode.rt:136:1
 returns-3 : tie.Need-returns-3
 unfolding ops32
 returns-3 c = rw (c .match .keys3)
 
--- src/decode.rt:136:1
 returns-4 : tie.Need-returns-4
 unfolding ops32
 returns-4 c = rw (c .match .keys4)
 
--- src/decode.rt:136:1
 returns-5 : tie.Need-returns-5
 unfolding ops32
 returns-5 c = rw (c .match .keys5)
 
--- src/decode.rt:136:1
 returns-6 : tie.Need-returns-6
 unfolding ops32
 returns-6 c = rw (c .match .keys6)
 
--- src/decode.rt:136:1
 returns-7 : tie.Need-returns-7
 unfolding ops32
 returns-7 c = rw (c .match .keys7)
 
--- src/decode.rt:136:1
 returns-8 : tie.Need-returns-8
 unfolding ops32
 returns-8 c = rw (c .match .keys8)
 
--- src/decode.rt:136:1
 returns-9 : tie.Need-returns-9
 unfolding ops32
 returns-9 c = rw (c .match .keys9)
 
--- src/decode.rt:136:1
 returns-10 : tie.Need-returns-10
 unfolding ops32
 returns-10 c = rw (c .match .keys10)
 
--- src/decode.rt:136:1
 returns-11 : tie.Need-returns-11
 unfolding ops32
 returns-11 c = missed _ Entry.Alu _ _ ops32 (c .match .rest)

@@ -3,53 +3,27 @@ use Rattle.rv64.specs.Run.{refusalOf, refusalFirst}
 use borrow.Author.Needs.{needs}
 use Rattle.rv64.proofs.run.refusal_of.Statement.{statement}
 use Rattle.rv64.proofs.run.refusal_of.Tie as tie
-use Rattle.rv64.proofs.run.refusal_of.Reads as reads
-use Rattle.rv64.proofs.run.refusal_of.Lts as lts
-use Rattle.rv64.proofs.run.covered.Reads as covered-reads
-use Rattle.rv64.proofs.run.fetch.Reads as fetch-reads
 
--- src/run.rt:133:9
 returns : tie.Need-returns
 unfolding refusalOf refusalFirst
 returns c = rw (eq-eqb _ _ (c .if1 .taken))
 
--- src/run.rt:136:9
 returns-2 : tie.Need-returns-2
 unfolding refusalOf refusalFirst
 returns-2 c = rw (ne-eqb _ _ (c .before .if1 .left), ne-eqb _ _ (c .if2 .taken))
 
--- src/run.rt:138:11
-fetch-requires : tie.Need-fetch-requires
-fetch-requires c κs = search needs
-
--- src/run.rt:139:29
-enum-told : tie.Need-enum-told
-enum-told c = search needs
-
--- src/run.rt:140:24
-enum-known-i : tie.Need-enum-known-i
-enum-known-i c = search needs
-
--- src/run.rt:141:17
-covered-requires : tie.Need-covered-requires
-covered-requires c κs = search needs
-
--- src/run.rt:142:17
 returns-3 : tie.Need-returns-3
 unfolding refusalOf refusalFirst
 returns-3 c = rw (ne-eqb _ _ (c .before .before .before .before .before .before .before .if1 .left), eq-eqb _ _ (c .before .before .before .before .before .before .if2 .left), ← c .before .before .before .before .before .fetch .ensures, c .before .before .before .i .given .1, ← c .before .covered .ensures, not-true (c .before .covered .result) (c .if3 .taken))
 
--- src/run.rt:145:17
 returns-4 : tie.Need-returns-4
 unfolding refusalOf refusalFirst
 returns-4 c = rw (ne-eqb _ _ (c .before .before .before .before .before .before .before .before .if1 .left), eq-eqb _ _ (c .before .before .before .before .before .before .before .if2 .left), ← c .before .before .before .before .before .before .fetch .ensures, c .before .before .before .before .i .given .1, ← c .before .before .covered .ensures, not-false (c .before .before .covered .result) (c .before .if3 .left), ne-eqb _ _ (c .if4 .taken))
 
--- src/run.rt:129:1
 returns-5 : tie.Need-returns-5
 unfolding refusalOf refusalFirst
 returns-5 c = rw (ne-eqb _ _ (c .before .before .before .before .if1 .left), eq-eqb _ _ (c .before .before .before .if2 .left), ← c .before .before .fetch .ensures, c .enum-told .given .1)
 
--- src/run.rt:129:1
 returns-6 : tie.Need-returns-6
 unfolding refusalOf refusalFirst
 returns-6 c = rw (ne-eqb _ _ (c .before .before .before .before .before .before .before .before .if1 .left), eq-eqb _ _ (c .before .before .before .before .before .before .before .if2 .left), ← c .before .before .before .before .before .before .fetch .ensures, c .before .before .before .before .i .given .1, ← c .before .before .covered .ensures, not-false (c .before .before .covered .result) (c .before .if3 .left), eq-eqb _ _ (c .if4 .left))
@@ -60,10 +34,10 @@ refusal-of-spec =
     (tie.spec
     returns
     returns-2
-    fetch-requires
-    enum-told
-    enum-known-i
-    covered-requires
+    (λ c κs. search needs)
+    (λ c. search needs)
+    (λ c. search needs)
+    (λ c κs. search needs)
     returns-3
     returns-4
     returns-5

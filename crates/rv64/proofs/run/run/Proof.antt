@@ -6,10 +6,6 @@ use Rattle.rv64.specs.Run.{onward}
 use Rattle.rv64.proofs.Running.{Running, begin, at-limit, not-fetched, one, inside, on, in-registers}
 use Rattle.rv64.proofs.run.run.Statement.{statement}
 use Rattle.rv64.proofs.run.run.Tie as tie
-use Rattle.rv64.proofs.run.run.Reads as reads
-use Rattle.rv64.proofs.run.run.Lts as lts
-use Rattle.rv64.proofs.execute.execute.Reads as execute-reads
-use Rattle.rv64.proofs.run.fetch.Reads as fetch-reads
 
 abbrev Inv-loop : tie.InvT-loop
 Inv-loop guest limit ignore-ebreak h₀ at₀ n₀ h at n = Running ignore-ebreak guest limit h₀ h at n
@@ -17,81 +13,35 @@ Inv-loop guest limit ignore-ebreak h₀ at₀ n₀ h at n = Running ignore-ebrea
 abbrev μ-loop : tie.MeasureT-loop
 μ-loop guest limit ignore-ebreak h₀ at₀ n₀ h at n = limit - n
 
--- src/run.rt:92:9
 loop-holds : tie.Need-loop-holds Inv-loop μ-loop
 loop-holds c = begin _ _ _ _
 
--- src/run.rt:97:15
 fetch-requires : tie.Need-fetch-requires Inv-loop μ-loop
 fetch-requires c κs = c .before .loop .inv .within
 
--- src/run.rt:98:39
-enum-told : tie.Need-enum-told Inv-loop μ-loop
-enum-told c = search needs
-
--- src/run.rt:99:28
-enum-known-i : tie.Need-enum-known-i Inv-loop μ-loop
-enum-known-i c = search needs
-
--- src/run.rt:99:46
 execute-requires : tie.Need-execute-requires Inv-loop μ-loop
 execute-requires c κs = in-registers (c .before .before .before .before .before .before .loop .inv) (sym (c .before .before .before .before .fetch .ensures) ∙ c .before .before .i .given .1)
 
--- src/run.rt:100:28
-enum-known-to : tie.Need-enum-known-to Inv-loop μ-loop
-enum-known-to c = search needs
-
--- src/run.rt:102:21
 add-at : tie.Need-add-at Inv-loop μ-loop
 add-at c = let k = inside (c .before .before .before .before .before .before .before .before .before .before .loop .inv) (c .before .before .before .before .before .before .before .before .before .if1 .left) (sym (c .before .before .before .before .before .before .before .before .fetch .ensures) ∙ c .before .before .before .before .before .before .i .given .1) (c .before .before .before .execute .ensures .0) (c .before .before .before .execute .ensures .1) in omega arith
 
--- src/run.rt:104:29
-enum-known-to-2 : tie.Need-enum-known-to-2 Inv-loop μ-loop
-enum-known-to-2 c = search needs
-
--- src/run.rt:106:21
-add-n : tie.Need-add-n Inv-loop μ-loop
-add-n c = search needs
-
--- src/run.rt:109:39
-enum-told-2 : tie.Need-enum-told-2 Inv-loop μ-loop
-enum-told-2 c = search needs
-
--- src/run.rt:110:42
-enum-told-3 : tie.Need-enum-told-3 Inv-loop μ-loop
-enum-told-3 c = search needs
-
--- src/run.rt:113:9
-add-n-2 : tie.Need-add-n-2 Inv-loop μ-loop
-add-n-2 c = search needs
-
--- src/run.rt:92:9
-loop-less : tie.Need-loop-less Inv-loop μ-loop
-loop-less c = search needs
-
--- src/run.rt:92:9
 loop-again : tie.Need-loop-again Inv-loop μ-loop
 loop-again c = on (c .before .before .before .before .before .before .before .before .before .before .loop .inv) (c .before .before .before .before .before .before .before .before .before .if1 .left) (sym (c .before .before .before .before .before .before .before .before .fetch .ensures) ∙ c .before .before .before .before .before .before .i .given .1) (c .before .before .before .execute .ensures .0) (c .before .before .before .execute .ensures .1) _ (c .before .to .given .1)
 
--- src/run.rt:86:1
 returns : tie.Need-returns Inv-loop μ-loop
 returns c = at-limit (c .before .loop .inv) (c .if1 .taken)
 
--- src/run.rt:86:1
 returns-2 : tie.Need-returns-2 Inv-loop μ-loop
 returns-2 c = not-fetched (c .before .before .before .before .loop .inv) (c .before .before .before .if1 .left) (sym (c .before .before .fetch .ensures) ∙ c .enum-told .given .1)
 
--- src/run.rt:86:1
 returns-3 : tie.Need-returns-3 Inv-loop μ-loop
 unfolding onward
 returns-3 c = rw (c .before .to2 .given .1) at (one (c .before .before .before .before .before .before .before .before .before .before .loop .inv) (c .before .before .before .before .before .before .before .before .before .if1 .left) (sym (c .before .before .before .before .before .before .before .before .fetch .ensures) ∙ c .before .before .before .before .before .before .i .given .1) (c .before .before .before .execute .ensures .0) (c .before .before .before .execute .ensures .1))
 
--- src/run.rt:86:1
 returns-4 : tie.Need-returns-4 Inv-loop μ-loop
 unfolding onward
 returns-4 c = rw (c .enum-told2 .given .1) at (one (c .before .before .before .before .before .before .before .before .before .loop .inv) (c .before .before .before .before .before .before .before .before .if1 .left) (sym (c .before .before .before .before .before .before .before .fetch .ensures) ∙ c .before .before .before .before .before .i .given .1) (c .before .before .execute .ensures .0) (c .before .before .execute .ensures .1))
 
--- src/run.rt:86:1
 returns-5 : tie.Need-returns-5 Inv-loop μ-loop
 unfolding onward
 returns-5 c = rw (c .enum-told3 .given .1) at (one (c .before .before .before .before .before .before .before .before .before .loop .inv) (c .before .before .before .before .before .before .before .before .if1 .left) (sym (c .before .before .before .before .before .before .before .fetch .ensures) ∙ c .before .before .before .before .before .i .given .1) (c .before .before .execute .ensures .0) (c .before .before .execute .ensures .1))
@@ -104,17 +54,17 @@ run-spec =
     μ-loop
     loop-holds
     fetch-requires
-    enum-told
-    enum-known-i
+    (λ c. search needs)
+    (λ c. search needs)
     execute-requires
-    enum-known-to
+    (λ c. search needs)
     add-at
-    enum-known-to-2
-    add-n
-    enum-told-2
-    enum-told-3
-    add-n-2
-    loop-less
+    (λ c. search needs)
+    (λ c. search needs)
+    (λ c. search needs)
+    (λ c. search needs)
+    (λ c. search needs)
+    (λ c. search needs)
     loop-again
     returns
     returns-2
