@@ -4,17 +4,6 @@ use borrow.Author.Needs.{needs}
 use Rattle.rv64.proofs.alu.quotient.Statement.{statement}
 use Rattle.rv64.proofs.alu.quotient.Tie as tie
 
-returns : tie.Need-returns
-unfolding quotient
-returns c = rw (eq-eqb _ _ (c .if1 .taken))
-
-returns-2 : tie.Need-returns-2
-unfolding quotient
-returns-2 c = rw (ne-eqb _ _ (c .before .before .if1 .left), ← c .before .overflows .ensures, c .if2 .taken)
-
-returns-3 : tie.Need-returns-3
-unfolding quotient
-returns-3 c = rw (c .sdiv .ensures, ne-eqb _ _ (c .before .before .before .if1 .left), ← c .before .before .overflows .ensures, c .before .if2 .left)
-
 pub quotient-spec : {M : Type 1} → statement M
-quotient-spec = tie.close (tie.spec returns (λ c κs. search needs) returns-2 (λ c κs. search needs) returns-3)
+unfolding quotient
+quotient-spec = tie.close (tie.spec (λ c. rw (eq-eqb _ _ (c .if1 .taken))) (λ c κs. search needs) (λ c. rw (ne-eqb _ _ (c .before .before .if1 .left), ← c .before .overflows .ensures, c .if2 .taken)) (λ c κs. search needs) (λ c. rw (c .sdiv .ensures, ne-eqb _ _ (c .before .before .before .if1 .left), ← c .before .before .overflows .ensures, c .before .if2 .left)))

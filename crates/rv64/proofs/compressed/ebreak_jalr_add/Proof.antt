@@ -4,23 +4,8 @@ use borrow.Author.Needs.{needs}
 use Rattle.rv64.proofs.compressed.ebreak_jalr_add.Statement.{statement}
 use Rattle.rv64.proofs.compressed.ebreak_jalr_add.Tie as tie
 
-returns : tie.Need-returns
-unfolding ebreakJalrAdd
-returns c = rw (c .unless0 .ensures, ← c .before .before .before .rd .ensures, ← c .before .before .rs2 .ensures, ne-eqb _ _ (c .before .if1 .taken))
-
-returns-2 : tie.Need-returns-2
-unfolding ebreakJalrAdd
-returns-2 c = rw (← c .before .before .before .rd .ensures, ← c .before .before .rs2 .ensures, eq-eqb _ _ (c .before .if1 .left), ne-eqb _ _ (c .if2 .taken))
-
-returns-3 : tie.Need-returns-3
-unfolding ebreakJalrAdd
-returns-3 c = rw (← c .before .before .before .before .rd .ensures, ← c .before .before .before .rs2 .ensures, eq-eqb _ _ (c .before .before .if1 .left), eq-eqb _ _ (c .before .if2 .left), c .if3 .taken)
-
-returns-4 : tie.Need-returns-4
-unfolding ebreakJalrAdd
-returns-4 c = rw (← c .before .before .before .before .rd .ensures, ← c .before .before .before .rs2 .ensures, eq-eqb _ _ (c .before .before .if1 .left), eq-eqb _ _ (c .before .if2 .left), c .if3 .left)
-
 pub ebreak-jalr-add-spec : {M : Type 1} → statement M
+unfolding ebreakJalrAdd
 ebreak-jalr-add-spec =
     tie.close
     (tie.spec
@@ -28,7 +13,7 @@ ebreak-jalr-add-spec =
     (λ c κs. search needs)
     (λ c. search needs)
     (λ c κs. search needs)
-    returns
-    returns-2
-    returns-3
-    returns-4)
+    (λ c. rw (c .unless0 .ensures, ← c .before .before .before .rd .ensures, ← c .before .before .rs2 .ensures, ne-eqb _ _ (c .before .if1 .taken)))
+    (λ c. rw (← c .before .before .before .rd .ensures, ← c .before .before .rs2 .ensures, eq-eqb _ _ (c .before .if1 .left), ne-eqb _ _ (c .if2 .taken)))
+    (λ c. rw (← c .before .before .before .before .rd .ensures, ← c .before .before .before .rs2 .ensures, eq-eqb _ _ (c .before .before .if1 .left), eq-eqb _ _ (c .before .if2 .left), c .if3 .taken))
+    (λ c. rw (← c .before .before .before .before .rd .ensures, ← c .before .before .before .rs2 .ensures, eq-eqb _ _ (c .before .before .if1 .left), eq-eqb _ _ (c .before .if2 .left), c .if3 .left)))

@@ -4,15 +4,8 @@ use borrow.Author.Needs.{needs}
 use Rattle.rv64.proofs.compressed.jr_mv.Statement.{statement}
 use Rattle.rv64.proofs.compressed.jr_mv.Tie as tie
 
-returns : tie.Need-returns
-unfolding jrMv
-returns c = rw (c .unless0 .ensures, ← c .before .before .before .rd .ensures, ← c .before .before .rs2 .ensures, eq-eqb _ _ (c .before .if1 .taken))
-
-returns-2 : tie.Need-returns-2
-unfolding jrMv
-returns-2 c = rw (c .unless02 .ensures, ← c .before .before .before .rd .ensures, ← c .before .before .rs2 .ensures, ne-eqb _ _ (c .before .if1 .left))
-
 pub jr-mv-spec : {M : Type 1} → statement M
+unfolding jrMv
 jr-mv-spec =
     tie.close
     (tie.spec
@@ -20,7 +13,7 @@ jr-mv-spec =
     (λ c κs. search needs)
     (λ c. search needs)
     (λ c κs. search needs)
-    returns
+    (λ c. rw (c .unless0 .ensures, ← c .before .before .before .rd .ensures, ← c .before .before .rs2 .ensures, eq-eqb _ _ (c .before .if1 .taken)))
     (λ c. search needs)
     (λ c κs. search needs)
-    returns-2)
+    (λ c. rw (c .unless02 .ensures, ← c .before .before .before .rd .ensures, ← c .before .before .rs2 .ensures, ne-eqb _ _ (c .before .if1 .left))))

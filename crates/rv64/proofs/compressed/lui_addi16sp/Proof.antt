@@ -4,24 +4,17 @@ use borrow.Author.Needs.{needs}
 use Rattle.rv64.proofs.compressed.lui_addi16sp.Statement.{statement}
 use Rattle.rv64.proofs.compressed.lui_addi16sp.Tie as tie
 
-returns : tie.Need-returns
-unfolding luiAddi16sp
-returns c = rw (c .unless0 .ensures, c .before .imm-ci16 .ensures, ← c .before .before .before .rd .ensures, eq-eqb _ _ (c .before .before .if1 .taken))
-
-returns-2 : tie.Need-returns-2
-unfolding luiAddi16sp
-returns-2 c = rw (c .unless03 .ensures, c .before .unless02 .ensures, c .before .before .imm-ci .ensures, ← c .before .before .before .before .rd .ensures, ne-eqb _ _ (c .before .before .before .if1 .left))
-
 pub lui-addi16sp-spec : {M : Type 1} → statement M
+unfolding luiAddi16sp
 lui-addi16sp-spec =
     tie.close
     (tie.spec
     (λ c κs. search needs)
     (λ c κs. search needs)
     (λ c κs. search needs)
-    returns
+    (λ c. rw (c .unless0 .ensures, c .before .imm-ci16 .ensures, ← c .before .before .before .rd .ensures, eq-eqb _ _ (c .before .before .if1 .taken)))
     (λ c κs. search needs)
     (λ c. search needs)
     (λ c κs. search needs)
     (λ c κs. search needs)
-    returns-2)
+    (λ c. rw (c .unless03 .ensures, c .before .unless02 .ensures, c .before .before .imm-ci .ensures, ← c .before .before .before .before .rd .ensures, ne-eqb _ _ (c .before .before .before .if1 .left))))

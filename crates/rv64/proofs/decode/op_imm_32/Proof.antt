@@ -4,14 +4,7 @@ use borrow.Author.Needs.{needs}
 use Rattle.rv64.proofs.decode.op_imm_32.Statement.{statement}
 use Rattle.rv64.proofs.decode.op_imm_32.Tie as tie
 
-returns : tie.Need-returns
-unfolding opImm32 imms32
-returns c = rw (c .imm .ensures, ← c .before .before .funct3 .ensures, c .before .match .keys1)
-
-returns-2 : tie.Need-returns-2
-unfolding opImm32 imms32
-returns-2 c = rw (c .shift-imm-32 .ensures, ← c .before .before .funct3 .ensures) (missed _ (imm (c .before .before .before .args .w)) _ _ imms32 (c .before .match .rest))
-
 pub op-imm-32-spec : {M : Type 1} → statement M
+unfolding opImm32 imms32
 op-imm-32-spec =
-    tie.close (tie.spec (λ c κs. search needs) (λ c κs. search needs) (λ c κs. search needs) returns returns-2)
+    tie.close (tie.spec (λ c κs. search needs) (λ c κs. search needs) (λ c κs. search needs) (λ c. rw (c .imm .ensures, ← c .before .before .funct3 .ensures, c .before .match .keys1)) (λ c. rw (c .shift-imm-32 .ensures, ← c .before .before .funct3 .ensures) (missed _ (imm (c .before .before .before .args .w)) _ _ imms32 (c .before .match .rest))))

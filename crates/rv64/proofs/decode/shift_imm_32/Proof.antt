@@ -4,23 +4,8 @@ use borrow.Author.Needs.{needs}
 use Rattle.rv64.proofs.decode.shift_imm_32.Statement.{statement}
 use Rattle.rv64.proofs.decode.shift_imm_32.Tie as tie
 
-returns : tie.Need-returns
-unfolding shiftImm32 shifts32
-returns c = rw (c .shiftw .ensures, ← c .before .before .funct10 .ensures, c .before .match .keys1)
-
-returns-2 : tie.Need-returns-2
-unfolding shiftImm32 shifts32
-returns-2 c = rw (c .shiftw2 .ensures, ← c .before .before .funct10 .ensures, c .before .match .keys2)
-
-returns-3 : tie.Need-returns-3
-unfolding shiftImm32 shifts32
-returns-3 c = rw (c .shiftw3 .ensures, ← c .before .before .funct10 .ensures, c .before .match .keys3)
-
-returns-4 : tie.Need-returns-4
-unfolding shiftImm32 shifts32
-returns-4 c = rw (← c .before .funct10 .ensures) (missed _ (shiftw (c .before .before .args .w)) _ _ shifts32 (c .match .rest))
-
 pub shift-imm-32-spec : {M : Type 1} → statement M
+unfolding shiftImm32 shifts32
 shift-imm-32-spec =
     tie.close
     (tie.spec
@@ -28,7 +13,7 @@ shift-imm-32-spec =
     (λ c κs. search needs)
     (λ c κs. search needs)
     (λ c κs. search needs)
-    returns
-    returns-2
-    returns-3
-    returns-4)
+    (λ c. rw (c .shiftw .ensures, ← c .before .before .funct10 .ensures, c .before .match .keys1))
+    (λ c. rw (c .shiftw2 .ensures, ← c .before .before .funct10 .ensures, c .before .match .keys2))
+    (λ c. rw (c .shiftw3 .ensures, ← c .before .before .funct10 .ensures, c .before .match .keys3))
+    (λ c. rw (← c .before .funct10 .ensures) (missed _ (shiftw (c .before .before .args .w)) _ _ shifts32 (c .match .rest))))

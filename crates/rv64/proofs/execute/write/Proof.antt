@@ -4,13 +4,6 @@ use borrow.Author.Needs.{needs}
 use Rattle.rv64.proofs.execute.write.Statement.{statement}
 use Rattle.rv64.proofs.execute.write.Tie as tie
 
-returns : tie.Need-returns
-unfolding write
-returns c = rw (eq-eqb _ _ (c .if1 .taken))
-
-returns-2 : tie.Need-returns-2
-unfolding write
-returns-2 c = rw (ne-eqb _ _ (c .if1 .left))
-
 pub write-spec : {M : Type 1} → statement M
-write-spec = tie.close (tie.spec returns (λ c. search needs) (λ c. search needs) returns-2)
+unfolding write
+write-spec = tie.close (tie.spec (λ c. rw (eq-eqb _ _ (c .if1 .taken))) (λ c. search needs) (λ c. search needs) (λ c. rw (ne-eqb _ _ (c .if1 .left))))

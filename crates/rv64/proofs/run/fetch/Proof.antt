@@ -6,32 +6,17 @@ use borrow.Author.Needs.{needs}
 use Rattle.rv64.proofs.run.fetch.Statement.{statement}
 use Rattle.rv64.proofs.run.fetch.Tie as tie
 
-returns : tie.Need-returns
-unfolding fetch
-returns c = rw (length-drop, lt-ltb _ _ (c .if1 .taken))
-
-returns-2 : tie.Need-returns-2
-unfolding fetch
-returns-2 c = rw (c .decode16 .ensures, length-drop, le-ltb _ _ (c .before .before .before .if1 .left), at-front, ← c .before .before .load16 .ensures, ne-eqb _ _ (c .before .if2 .taken))
-
-returns-3 : tie.Need-returns-3
-unfolding fetch
-returns-3 c = rw (length-drop, le-ltb _ _ (c .before .before .before .if1 .left), at-front, ← c .before .before .load16 .ensures, eq-eqb _ _ (c .before .if2 .left), lt-ltb _ _ (c .if3 .taken))
-
-returns-4 : tie.Need-returns-4
-unfolding fetch
-returns-4 c = rw (c .decode32 .ensures, length-drop, le-ltb _ _ (c .before .before .before .before .before .if1 .left), at-front 2, ← c .before .before .before .before .load16 .ensures, at-front 4, ← c .before .load32 .ensures, eq-eqb _ _ (c .before .before .before .if2 .left), le-ltb _ _ (c .before .before .if3 .left))
-
 pub fetch-spec : {M : Type 1} → statement M
+unfolding fetch
 fetch-spec =
     tie.close
     (tie.spec
     (λ c. search needs)
-    returns
+    (λ c. rw (length-drop, lt-ltb _ _ (c .if1 .taken)))
     (λ c κs. search needs)
     (λ c κs. search needs)
-    returns-2
-    returns-3
+    (λ c. rw (c .decode16 .ensures, length-drop, le-ltb _ _ (c .before .before .before .if1 .left), at-front, ← c .before .before .load16 .ensures, ne-eqb _ _ (c .before .if2 .taken)))
+    (λ c. rw (length-drop, le-ltb _ _ (c .before .before .before .if1 .left), at-front, ← c .before .before .load16 .ensures, eq-eqb _ _ (c .before .if2 .left), lt-ltb _ _ (c .if3 .taken)))
     (λ c κs. search needs)
     (λ c κs. search needs)
-    returns-4)
+    (λ c. rw (c .decode32 .ensures, length-drop, le-ltb _ _ (c .before .before .before .before .before .if1 .left), at-front 2, ← c .before .before .before .before .load16 .ensures, at-front 4, ← c .before .load32 .ensures, eq-eqb _ _ (c .before .before .before .if2 .left), le-ltb _ _ (c .before .before .if3 .left))))
