@@ -5,7 +5,6 @@ use Prim.Native.Nat.{ℕ, zero, suc, _+_, _%_, min}
 use lib.Dec.{ltb, eqb}
 use lib.ListN.{length, drop, getD}
 use Rattle.le.specs.Le.{load}
-use Rattle.rv64.specs.declared.decode.Instr.{Instr}
 use Rattle.rv64.specs.declared.execute.Flow.{Flow}
 use Rattle.rv64.specs.declared.run.Hart.{Hart}
 use Rattle.rv64.specs.declared.run.Fetched.{Fetched}
@@ -16,9 +15,6 @@ use Rattle.rv64.specs.declared.run.Answer.{Answer}
 use Rattle.rv64.specs.Decode.{decode32}
 use Rattle.rv64.specs.Compressed.{decode16}
 use Rattle.rv64.specs.Execute as X
-
-abbrev pub covered : Instr → Bool
-covered i = X.covered i
 
 -- ---- fetching, from the bytes at the PC on ('Base Instruction-Length Encoding'; document 01, rule 1)
 
@@ -84,7 +80,7 @@ number Refusal.RegisterZero = 9
 unfoldable pub refusalFirst : Fetched → ℕ → Refusal
 refusalFirst Fetched.Missing x0 = Refusal.NotFetched
 refusalFirst (Fetched.Found i size) x0 =
-    cond (covered i) (cond (eqb x0 0) Refusal.Accepted Refusal.RegisterZero) Refusal.NotCovered
+    cond (X.covered i) (cond (eqb x0 0) Refusal.Accepted Refusal.RegisterZero) Refusal.NotCovered
 
 -- the lowest that applies; x0: what register 0 holds
 unfoldable pub refusalOf : List ℕ → ℕ → ℕ → Bool → ℕ → Refusal

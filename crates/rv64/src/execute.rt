@@ -26,15 +26,17 @@ fn read(x: &[u64; 32], n: u32) -> u64
     x[i]
 }
 
-fn write(x: &mut [u64; 32], n: u32, v: u64)
-    requires { ⌜ n < 32 ⌝ }
-    ensures { λ r. ⌜ now (x .exit) ≡ X.write (now (x .entry)) n v ⌝ }
+// Register rd set to v; how the block goes on is handed through.
+fn set(x: &mut [u64; 32], rd: u32, v: u64, flow: Flow) -> Flow
+    requires { ⌜ rd < 32 ⌝ }
+    ensures { λ r. ⌜ (r ≡ flow) × (now (x .exit) ≡ X.write (now (x .entry)) rd v) ⌝ }
 {
-    if n == 0 {
-        return;
+    if rd == 0 {
+        return flow;
     }
-    let i = n as usize;
+    let i = rd as usize;
     x[i] = v;
+    flow
 }
 
 // The instruction i of n bytes at pc.
@@ -46,30 +48,23 @@ pub fn execute(x: &mut [u64; 32], i: Instr, n: u64, pc: u64) -> Flow
     match i {
         Instr::Op(k, rd, rs1, rs2) => {
             let v = value(k, read(x, rs1), read(x, rs2));
-            write(x, rd, v);
-            Flow::Next(next)
+            set(x, rd, v, Flow::Next(next))
         }
         Instr::OpImm(k, rd, rs1, imm) => {
             let v = value(k, read(x, rs1), imm);
-            write(x, rd, v);
-            Flow::Next(next)
+            set(x, rd, v, Flow::Next(next))
         }
-        Instr::Lui(rd, imm) => {
-            write(x, rd, imm);
-            Flow::Next(next)
-        }
-        Instr::Auipc(rd, imm) => {
-            write(x, rd, std::num::wrapping_add_u64(pc, imm));
-            Flow::Next(next)
-        }
-        Instr::Jal(rd, imm) => {
-            write(x, rd, next);
-            Flow::Ended(std::num::wrapping_add_u64(pc, imm))
-        }
+        Instr::Lui(rd, imm) => set(x, rd, imm, Flow::Next(next)),
+        Instr::Auipc(rd, imm) => set(x, rd, std::num::wrapping_add_u64(pc, imm), Flow::Next(next)),
+        Instr::Jal(rd, imm) => set(
+            x,
+            rd,
+            next,
+            Flow::Ended(std::num::wrapping_add_u64(pc, imm)),
+        ),
         Instr::Jalr(rd, rs1, imm) => {
             let to = std::num::wrapping_add_u64(read(x, rs1), imm);
-            write(x, rd, next);
-            Flow::Ended(to / 2 * 2)
+            set(x, rd, next, Flow::Ended(to / 2 * 2))
         }
         Instr::Branch(k, rs1, rs2, imm) => {
             if taken(k, read(x, rs1), read(x, rs2)) {

@@ -2,6 +2,7 @@
 ghost use mathlib.Core.Path.{_≡_};
 ghost use Prim.Native.Nat.{_≤_};
 ghost use lib.ListN.{length, drop, getD};
+ghost use Rattle.rv64.specs.Execute as X;
 ghost use Rattle.rv64.specs.Run as R;
 use crate::compressed::decode16;
 use crate::decode::Instr;
@@ -111,7 +112,7 @@ pub fn run(guest: &[u8], limit: u32, ignore_ebreak: bool, hart: Hart) -> Ran
 }
 
 fn covered(i: Instr) -> bool
-    ensures { λ r. ⌜ r ≡ R.covered i ⌝ }
+    ensures { λ r. ⌜ r ≡ X.covered i ⌝ }
 {
     match i {
         Instr::Op(_, _, _, _) => true,

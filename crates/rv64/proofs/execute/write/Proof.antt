@@ -1,9 +1,0 @@
-use borrow.Author.Tests.{eq-eqb, ne-eqb, lt-ltb, le-ltb}
-use Rattle.rv64.specs.Execute.{write}
-use borrow.Author.Needs.{needs}
-use Rattle.rv64.proofs.execute.write.Statement.{statement}
-use Rattle.rv64.proofs.execute.write.Tie as tie
-
-pub write-spec : {M : Type 1} → statement M
-unfolding write
-write-spec = tie.close (tie.spec (λ c. rw (eq-eqb _ _ (c .if1 .taken))) (λ c. search needs) (λ c. search needs) (λ c. rw (ne-eqb _ _ (c .if1 .left))))
