@@ -4,7 +4,39 @@ ghost use Rattle.isa.specs.Formats as F;
 ghost use Rattle.rv64.specs.Decode as D;
 use crate::alu::Alu;
 use crate::alu::Cond;
-use isa::classes::Class;
+
+// Opcodes.
+const OP: u32 = 0b0110011;
+
+const OP_IMM: u32 = 0b0010011;
+
+const OP_32: u32 = 0b0111011;
+
+const OP_IMM_32: u32 = 0b0011011;
+
+const LUI: u32 = 0b0110111;
+
+const AUIPC: u32 = 0b0010111;
+
+const JAL: u32 = 0b1101111;
+
+const JALR: u32 = 0b1100111;
+
+const BRANCH: u32 = 0b1100011;
+
+const MISC_MEM: u32 = 0b0001111;
+
+const LOAD: u32 = 0b0000011;
+
+const STORE: u32 = 0b0100011;
+
+const LOAD_FP: u32 = 0b0000111;
+
+const STORE_FP: u32 = 0b0100111;
+
+const AMO: u32 = 0b0101111;
+
+const SYSTEM: u32 = 0b1110011;
 
 // An instruction: registers by number, immediates as they are added or shifted by.
 pub enum Instr {
@@ -229,23 +261,23 @@ fn below(w: u32, n: u32, i: Instr) -> Instr
 pub fn decode32(w: u32) -> Instr
     ensures { λ r. ⌜ r ≡ D.decode32 w ⌝ }
 {
-    match isa::classes::opcode_class(w) {
-        Class::Op => op(w),
-        Class::OpImm => op_imm(w),
-        Class::Op32 => op_32(w),
-        Class::OpImm32 => op_imm_32(w),
-        Class::Lui => Instr::Lui(rd(w), isa::decode::imm_u(w)),
-        Class::Auipc => Instr::Auipc(rd(w), isa::decode::imm_u(w)),
-        Class::Jal => Instr::Jal(rd(w), isa::decode::imm_j(w)),
-        Class::Jalr => Instr::Jalr(rd(w), rs1(w), isa::decode::imm_i(w)),
-        Class::Branch => branch(w),
-        Class::MiscMem => below(w, 2, Instr::Nop),
-        Class::Load => below(w, 7, Instr::Helper),
-        Class::Store => below(w, 4, Instr::Helper),
-        Class::LoadFp => Instr::Helper,
-        Class::StoreFp => Instr::Helper,
-        Class::Amo => Instr::Helper,
-        Class::System => Instr::Uncovered,
-        Class::Other => Instr::Uncovered,
+    match w % 128 {
+        OP => op(w),
+        OP_IMM => op_imm(w),
+        OP_32 => op_32(w),
+        OP_IMM_32 => op_imm_32(w),
+        LUI => Instr::Lui(rd(w), isa::decode::imm_u(w)),
+        AUIPC => Instr::Auipc(rd(w), isa::decode::imm_u(w)),
+        JAL => Instr::Jal(rd(w), isa::decode::imm_j(w)),
+        JALR => Instr::Jalr(rd(w), rs1(w), isa::decode::imm_i(w)),
+        BRANCH => branch(w),
+        MISC_MEM => below(w, 2, Instr::Nop),
+        LOAD => below(w, 7, Instr::Helper),
+        STORE => below(w, 4, Instr::Helper),
+        LOAD_FP => Instr::Helper,
+        STORE_FP => Instr::Helper,
+        AMO => Instr::Helper,
+        SYSTEM => Instr::Uncovered,
+        _ => Instr::Uncovered,
     }
 }
