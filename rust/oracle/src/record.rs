@@ -524,6 +524,6 @@ pub fn files() -> [(&'static str, Vec<u8>); 4] {
         ("rust/oracle/recorded/blocks.bin", blocks()),
         ("crates/decode_replay/data/decode.bin", decoded()),
         ("crates/decode_replay/data/compressed.bin", compressed()),
-        ("rust/oracle/recorded/place.bin", placed()),
+        ("crates/place_replay/data/place.bin", placed()),
     ]
 }

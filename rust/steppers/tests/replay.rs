@@ -3,9 +3,9 @@
 use steppers::records::{a64_cases, rv64_cases, A64Case};
 use steppers::{a64_run, rv64_run};
 
-const RV64: &[u8] = include_bytes!("../../machines/recorded/rv64.bin");
-const A64: &[u8] = include_bytes!("../../machines/recorded/a64.bin");
-const A64_RULES: &[u8] = include_bytes!("../../machines/recorded/a64_rules.bin");
+const RV64: &[u8] = include_bytes!("../../../crates/rv64_replay/data/rv64.bin");
+const A64: &[u8] = include_bytes!("../../../crates/a64_replay/data/a64.bin");
+const A64_RULES: &[u8] = include_bytes!("../../../crates/a64_replay/data/a64_rules.bin");
 
 #[test]
 fn rv64() {
