@@ -1,0 +1,4 @@
+pub mod Tables
+pub mod Registers
+pub mod Fetching
+pub mod Running

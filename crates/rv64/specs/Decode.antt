@@ -1,0 +1,178 @@
+-- The 32-bit encodings, from the RISC-V Unprivileged ISA, 'RV32/64G Instruction Set Listings'; what is covered and what
+-- is a helper's, from document 01, rules 2 to 4. Definitions only.
+use mathlib.Core.Bool.{cond}
+use mathlib.Core.List.{List, [], _∷_}
+use Prim.Native.Nat.{ℕ, _+_, _*_}
+use lib.Dec.{ltb, eqb}
+use Rattle.isa.specs.declared.classes.Class.{Class}
+use Rattle.isa.specs.Classes.{classOf}
+use Rattle.isa.specs.Formats.{inst, opcode, rd, funct3, rs1, rs2, funct7, immI, immB, immU, immJ}
+use Rattle.rv64.specs.declared.alu.Alu.{Alu}
+use Rattle.rv64.specs.declared.alu.Cond.{Cond}
+use Rattle.rv64.specs.declared.decode.Instr.{Instr}
+use Rattle.rv64.specs.declared.decode.Entry.{Entry}
+
+-- ---- tables: from funct7_funct3, funct6_funct3 or funct3 to what is computed
+
+abbrev pub Table : Type 0 → Type 0
+Table A = List (ℕ × A)
+
+-- make of the entry at n, or other where the table has none
+abbrev pub lookup : {A B : Type 0} → Table A → ℕ → (A → B) → B → B
+lookup [] n make other = other
+lookup ((k, a) ∷ t) n make other = cond (eqb n k) (make a) (lookup t n make other)
+
+abbrev pub entry : Table Alu → ℕ → Entry
+entry t n = lookup t n Entry.Alu Entry.Reserved
+
+-- OP: RV32I and RV64I, then M
+unfoldable pub ops : Table Alu
+ops =
+    (0b0000000_000, Alu.Add)
+    ∷ (0b0100000_000, Alu.Sub)
+    ∷ (0b0000000_001, Alu.Sll)
+    ∷ (0b0000000_010, Alu.Slt)
+    ∷ (0b0000000_011, Alu.Sltu)
+    ∷ (0b0000000_100, Alu.Xor)
+    ∷ (0b0000000_101, Alu.Srl)
+    ∷ (0b0100000_101, Alu.Sra)
+    ∷ (0b0000000_110, Alu.Or)
+    ∷ (0b0000000_111, Alu.And)
+    ∷ (0b0000001_000, Alu.Mul)
+    ∷ (0b0000001_001, Alu.Mulh)
+    ∷ (0b0000001_010, Alu.Mulhsu)
+    ∷ (0b0000001_011, Alu.Mulhu)
+    ∷ (0b0000001_100, Alu.Div)
+    ∷ (0b0000001_101, Alu.Divu)
+    ∷ (0b0000001_110, Alu.Rem)
+    ∷ (0b0000001_111, Alu.Remu)
+    ∷ []
+
+-- OP-32
+unfoldable pub ops32 : Table Alu
+ops32 =
+    (0b0000000_000, Alu.Addw)
+    ∷ (0b0100000_000, Alu.Subw)
+    ∷ (0b0000000_001, Alu.Sllw)
+    ∷ (0b0000000_101, Alu.Srlw)
+    ∷ (0b0100000_101, Alu.Sraw)
+    ∷ (0b0000001_000, Alu.Mulw)
+    ∷ (0b0000001_100, Alu.Divw)
+    ∷ (0b0000001_101, Alu.Divuw)
+    ∷ (0b0000001_110, Alu.Remw)
+    ∷ (0b0000001_111, Alu.Remuw)
+    ∷ []
+
+-- OP-IMM, by funct3; its shifts by inst[31:26] and funct3
+unfoldable pub imms : Table Alu
+imms =
+    (0b000, Alu.Add)
+    ∷ (0b010, Alu.Slt)
+    ∷ (0b011, Alu.Sltu)
+    ∷ (0b100, Alu.Xor)
+    ∷ (0b110, Alu.Or)
+    ∷ (0b111, Alu.And)
+    ∷ []
+
+unfoldable pub shifts : Table Alu
+shifts =
+    (0b000000_001, Alu.Sll)
+    ∷ (0b000000_101, Alu.Srl)
+    ∷ (0b010000_101, Alu.Sra)
+    ∷ []
+
+-- OP-IMM-32, by funct3; its shifts by funct7 and funct3
+unfoldable pub imms32 : Table Alu
+imms32 =
+    (0b000, Alu.Addw)
+    ∷ []
+
+unfoldable pub shifts32 : Table Alu
+shifts32 =
+    (0b0000000_001, Alu.Sllw)
+    ∷ (0b0000000_101, Alu.Srlw)
+    ∷ (0b0100000_101, Alu.Sraw)
+    ∷ []
+
+-- BRANCH, by funct3
+unfoldable pub branches : Table Cond
+branches =
+    (0b000, Cond.Eq)
+    ∷ (0b001, Cond.Ne)
+    ∷ (0b100, Cond.Lt)
+    ∷ (0b101, Cond.Ge)
+    ∷ (0b110, Cond.Ltu)
+    ∷ (0b111, Cond.Geu)
+    ∷ []
+
+-- ---- the instruction that a word w holds
+
+-- funct7_funct3
+abbrev pub funct10 : ℕ → ℕ
+funct10 w = funct7 w * 8 + funct3 w
+
+abbrev pub reg : ℕ → Alu → Instr
+reg w k = Instr.Op k (rd w) (rs1 w) (rs2 w)
+
+abbrev pub imm : ℕ → Alu → Instr
+imm w k = Instr.OpImm k (rd w) (rs1 w) (immI w)
+
+-- shamt[5:0], and shamt[4:0] in a W instruction
+abbrev pub shift : ℕ → Alu → Instr
+shift w k = Instr.OpImm k (rd w) (rs1 w) (inst 25 20 w)
+
+abbrev pub shiftw : ℕ → Alu → Instr
+shiftw w k = Instr.OpImm k (rd w) (rs1 w) (inst 24 20 w)
+
+abbrev pub on : ℕ → Cond → Instr
+on w k = Instr.Branch k (rs1 w) (rs2 w) (immB w)
+
+unfoldable pub op : ℕ → Instr
+op w = lookup ops (funct10 w) (reg w) Instr.Uncovered
+
+unfoldable pub op32 : ℕ → Instr
+op32 w = lookup ops32 (funct10 w) (reg w) Instr.Uncovered
+
+unfoldable pub shiftImm : ℕ → Instr
+shiftImm w = lookup shifts (inst 31 26 w * 8 + funct3 w) (shift w) Instr.Uncovered
+
+unfoldable pub opImm : ℕ → Instr
+opImm w = lookup imms (funct3 w) (imm w) (shiftImm w)
+
+unfoldable pub shiftImm32 : ℕ → Instr
+shiftImm32 w = lookup shifts32 (funct10 w) (shiftw w) Instr.Uncovered
+
+unfoldable pub opImm32 : ℕ → Instr
+opImm32 w = lookup imms32 (funct3 w) (imm w) (shiftImm32 w)
+
+unfoldable pub branch : ℕ → Instr
+branch w = lookup branches (funct3 w) (on w) Instr.Uncovered
+
+-- i where funct3 is below n
+unfoldable pub below : ℕ → ℕ → Instr → Instr
+below w n i = cond (ltb (funct3 w) n) i Instr.Uncovered
+
+-- by opcode. JALR with any funct3; FENCE and FENCE.I (MISC-MEM, funct3 0 and 1) do nothing; LB, LH, LW, LD, LBU, LHU and
+-- LWU (LOAD, funct3 0 to 6), SB, SH, SW and SD (STORE, funct3 0 to 3), floating-point loads and stores and the atomics
+-- are a helper's (document 01, source readings and rule 4)
+unfoldable pub byClass : Class → ℕ → Instr
+byClass Class.Op w = op w
+byClass Class.OpImm w = opImm w
+byClass Class.Op32 w = op32 w
+byClass Class.OpImm32 w = opImm32 w
+byClass Class.Lui w = Instr.Lui (rd w) (immU w)
+byClass Class.Auipc w = Instr.Auipc (rd w) (immU w)
+byClass Class.Jal w = Instr.Jal (rd w) (immJ w)
+byClass Class.Jalr w = Instr.Jalr (rd w) (rs1 w) (immI w)
+byClass Class.Branch w = branch w
+byClass Class.MiscMem w = below w 2 Instr.Nop
+byClass Class.Load w = below w 7 Instr.Helper
+byClass Class.Store w = below w 4 Instr.Helper
+byClass Class.LoadFp w = Instr.Helper
+byClass Class.StoreFp w = Instr.Helper
+byClass Class.Amo w = Instr.Helper
+byClass Class.System w = Instr.Uncovered
+byClass Class.Other w = Instr.Uncovered
+
+unfoldable pub decode32 : ℕ → Instr
+decode32 w = byClass (classOf (opcode w)) w

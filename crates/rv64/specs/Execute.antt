@@ -1,0 +1,70 @@
+-- What an instruction does to the 32 registers and the PC, from the RISC-V Unprivileged ISA, chapters 'RV32I' and
+-- 'RV64I'. Definitions only.
+use mathlib.Core.Bool.{Bool, true, false, cond}
+use mathlib.Core.List.{List}
+use Prim.Native.Nat.{ℕ, _*_, _/_, _<_}
+use lib.Dec.{eqb}
+use lib.ListN.{getD, set}
+use Rattle.word.specs.Word.{add}
+use Rattle.rv64.specs.declared.decode.Instr.{Instr}
+use Rattle.rv64.specs.declared.execute.Flow.{Flow}
+use Rattle.rv64.specs.Alu.{value, taken}
+
+-- register 0 reads as 0, and is never written
+unfoldable pub read : List ℕ → ℕ → ℕ
+read x n = cond (eqb n 0) 0 (getD x n 0)
+
+unfoldable pub write : List ℕ → ℕ → ℕ → List ℕ
+write x n v = cond (eqb n 0) x (set x n v)
+
+-- the registers after an instruction, and how the block goes on
+pub record Step : Type 0 where
+  pub x : List ℕ
+  pub flow : Flow
+
+abbrev pub next : List ℕ → ℕ → Step
+next x pc = record { x = x; flow = Flow.Next pc }
+
+abbrev pub ended : List ℕ → ℕ → Step
+ended x pc = record { x = x; flow = Flow.Ended pc }
+
+-- an instruction of n bytes at pc. JAL and JALR put the address behind them in rd; JALR reads rs1 before that, and clears
+-- bit 0 of the sum. A jump or a branch ends the block (document 01, rule 5)
+unfoldable pub exec : Instr → ℕ → ℕ → List ℕ → Step
+exec (Instr.Op k rd rs1 rs2) n pc x = next (write x rd (value k (read x rs1) (read x rs2))) (add pc n)
+exec (Instr.OpImm k rd rs1 imm) n pc x = next (write x rd (value k (read x rs1) imm)) (add pc n)
+exec (Instr.Lui rd imm) n pc x = next (write x rd imm) (add pc n)
+exec (Instr.Auipc rd imm) n pc x = next (write x rd (add pc imm)) (add pc n)
+exec (Instr.Jal rd imm) n pc x = ended (write x rd (add pc n)) (add pc imm)
+exec (Instr.Jalr rd rs1 imm) n pc x = ended (write x rd (add pc n)) (add (read x rs1) imm / 2 * 2)
+exec (Instr.Branch k rs1 rs2 imm) n pc x =
+    ended x (cond (taken k (read x rs1) (read x rs2)) (add pc imm) (add pc n))
+exec Instr.Nop n pc x = next x (add pc n)
+exec Instr.Helper n pc x = record { x = x; flow = Flow.Helper }
+exec Instr.Uncovered n pc x = record { x = x; flow = Flow.Uncovered }
+
+-- neither a helper's nor refused
+unfoldable pub covered : Instr → Bool
+covered (Instr.Op k rd rs1 rs2) = true
+covered (Instr.OpImm k rd rs1 imm) = true
+covered (Instr.Lui rd imm) = true
+covered (Instr.Auipc rd imm) = true
+covered (Instr.Jal rd imm) = true
+covered (Instr.Jalr rd rs1 imm) = true
+covered (Instr.Branch k rs1 rs2 imm) = true
+covered Instr.Nop = true
+covered Instr.Helper = false
+covered Instr.Uncovered = false
+
+-- every register's number is one of 0 to 31
+abbrev pub registers : Instr → Type 0
+registers (Instr.Op k rd rs1 rs2) = (rd < 32) × (rs1 < 32) × (rs2 < 32)
+registers (Instr.OpImm k rd rs1 imm) = (rd < 32) × (rs1 < 32)
+registers (Instr.Lui rd imm) = rd < 32
+registers (Instr.Auipc rd imm) = rd < 32
+registers (Instr.Jal rd imm) = rd < 32
+registers (Instr.Jalr rd rs1 imm) = (rd < 32) × (rs1 < 32)
+registers (Instr.Branch k rs1 rs2 imm) = (rs1 < 32) × (rs2 < 32)
+registers Instr.Nop = Unit {0}
+registers Instr.Helper = Unit {0}
+registers Instr.Uncovered = Unit {0}

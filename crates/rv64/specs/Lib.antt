@@ -1,0 +1,6 @@
+pub mod Alu
+pub mod Decode
+pub mod Compressed
+pub mod Execute
+pub mod Run
+pub mod Examples
