@@ -6,12 +6,16 @@ use lib.Dec.{eqb}
 use Rattle.le.specs.Le.{load}
 use Rattle.code_cache.specs.declared.Placed.{Placed}
 use Rattle.code_cache.specs.Place as P
+use Rattle.rv64.specs.declared.run.Hart.{Hart}
+use Rattle.rv64.specs.declared.run.Answer as Rv64
+use Rattle.rv64.specs.Run.{number}
 use Rattle.a64_run.specs.declared.state.A64State.{A64State}
 use Rattle.a64_run.specs.declared.run.Answer.{Answer}
 use Rattle.a64_run.specs.Nzcv.{flagsOf, nzcvOf}
 use Rattle.a64_run.specs.Run as R
 use Rattle.hilofanur.specs.declared.PlaceAnswer.{PlaceAnswer}
 use Rattle.hilofanur.specs.declared.A64RunAnswer.{A64RunAnswer}
+use Rattle.hilofanur.specs.declared.Rv64RunAnswer.{Rv64RunAnswer}
 use Rattle.hilofanur.specs.Bytes.{numbers, bytes-of}
 
 -- ---- Place
@@ -37,3 +41,16 @@ a64-of a = record { refusal = a .refusal; end = a .end; steps = a .steps }
 -- a refusal leaves the state's bytes
 abbrev pub a64-bytes : Answer → List ℕ → List ℕ
 a64-bytes a state = cond (eqb (a .refusal) 0) (bytes-of (a64-numbers (a .state))) state
+
+-- ---- RV64 run
+
+-- the 32 registers, eight bytes each, and the PC
+abbrev pub rv64-hart : List ℕ → ℕ → Hart
+rv64-hart m pc = record { x = numbers 32 m; pc = pc }
+
+abbrev pub rv64-of : Rv64.Answer → Rv64RunAnswer
+rv64-of a = record { refusal = number (a .refusal); count = a .count; «next_pc» = a .hart .pc }
+
+-- a refusal leaves the registers' bytes
+abbrev pub rv64-bytes : Rv64.Answer → List ℕ → List ℕ
+rv64-bytes a registers = cond (eqb (number (a .refusal)) 0) (bytes-of (a .hart .x)) registers

@@ -1,13 +1,16 @@
 // The operations over the C boundary: numbers and byte slices.
 ghost use mathlib.Core.Path.{_≡_};
 ghost use Rattle.code_cache.specs.Place.{store-after};
+ghost use Rattle.rv64.specs.Run as Rv64;
 ghost use Rattle.a64_run.specs.Run as R;
 ghost use Rattle.hilofanur.specs.Answers as Answers;
 
 mod a64_state;
 mod numbers;
+mod rv64_hart;
 
 use a64_run::run;
+use rv64::run as rv64_run;
 
 // The refusal, 0 where the code was placed; where it starts; how much of the store is then used.
 #[repr(C)]
@@ -23,6 +26,14 @@ pub struct A64RunAnswer {
     pub refusal: u32,
     pub end: u32,
     pub steps: u64,
+}
+
+// The refusal; the instructions done; the PC behind them.
+#[repr(C)]
+pub struct Rv64RunAnswer {
+    pub refusal: u32,
+    pub count: u32,
+    pub next_pc: u64,
 }
 
 #[no_mangle]
@@ -68,5 +79,37 @@ pub extern "C" fn hilofanur_a64_run(
         refusal: refusal,
         end: answer.end,
         steps: answer.steps,
+    }
+}
+
+// registers: the 32 of them, eight bytes each.
+#[no_mangle]
+pub extern "C" fn hilofanur_rv64_run(
+    guest: &[u8],
+    pc: u64,
+    limit: u32,
+    ignore_ebreak: bool,
+    registers: &mut [u8; 256],
+) -> Rv64RunAnswer
+    ensures { λ r. ⌜ r ≡ Answers.rv64-of (Rv64.answer (now (guest .entry)) (Answers.rv64-hart (now (registers .entry)) pc) limit «ignore_ebreak») ⌝ }
+    ensures { λ r. ⌜ now (registers .exit) ≡ Answers.rv64-bytes (Rv64.answer (now (guest .entry)) (Answers.rv64-hart (now (registers .entry)) pc) limit «ignore_ebreak») (now (registers .entry)) ⌝ }
+{
+    let before = rv64_hart::from_bytes(registers, pc);
+    let answer = rv64_run::rv64_run(guest, before, limit, ignore_ebreak);
+    let why = answer.refusal;
+    let refusal = rv64_run::number(why);
+    let after = answer.hart;
+    if refusal != 0 {
+        return Rv64RunAnswer {
+            refusal: refusal,
+            count: answer.count,
+            next_pc: after.pc,
+        };
+    }
+    rv64_hart::to_bytes(after, registers);
+    Rv64RunAnswer {
+        refusal: refusal,
+        count: answer.count,
+        next_pc: after.pc,
     }
 }
