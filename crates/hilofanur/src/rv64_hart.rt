@@ -3,8 +3,8 @@ ghost use mathlib.Core.Path.{_≡_};
 ghost use lib.ListN.{length};
 ghost use Rattle.hilofanur.specs.Bytes.{bytes-of};
 ghost use Rattle.hilofanur.specs.Answers as Answers;
-use rv64::run::Hart;
 use crate::numbers;
+use rv64::run::Hart;
 
 pub fn from_bytes(b: &[u8], pc: u64) -> Hart
     requires { ⌜ length (now b) ≡ 256 ⌝ }

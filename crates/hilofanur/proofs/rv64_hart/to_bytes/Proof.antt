@@ -1,25 +1,19 @@
+use native.Mathlib.Omega.{arith}
+use mathlib.Core.Path.{_≡_, _∙_}
+use lib.ListN.{length}
+use Rattle.hilofanur.specs.Bytes.{over-all}
 use borrow.Author.Needs.{needs}
 use Rattle.hilofanur.proofs.rv64_hart.to_bytes.Statement.{statement}
 use Rattle.hilofanur.proofs.rv64_hart.to_bytes.Tie as tie
-use Rattle.hilofanur.proofs.rv64_hart.to_bytes.Reads as reads
-use Rattle.hilofanur.proofs.rv64_hart.to_bytes.Lts as lts
-use Rattle.hilofanur.proofs.numbers.write.Reads as write-reads
 
--- src/rv64_hart.rt:23:20
-slice-aggregate-write : tie.Need-slice-aggregate-write
-slice-aggregate-write c = search needs
-
--- src/rv64_hart.rt:23:5
 write-requires : tie.Need-write-requires
-write-requires c κs = ?
+write-requires c κs = let l : length (c .before .before .before .before .args .h .x) ≡ 32 = search needs in omega arith
 
--- src/rv64_hart.rt:18:1
-same-length : tie.Need-same-length
-same-length c = search needs
-
--- src/rv64_hart.rt:18:1
 returns : tie.Need-returns
-returns c = ?
+returns c =
+    let a = c .before .before .before .before .before .before .before .args in
+    let l : length (a .h .x) ≡ 32 = search needs in
+    c .before .before .write .ensures ∙ over-all (a .h .x) (a .b .now) (omega arith)
 
 pub to-bytes-spec : {M : Type 1} → statement M
-to-bytes-spec = tie.close (tie.spec slice-aggregate-write write-requires same-length returns)
+to-bytes-spec = tie.close (tie.spec (λ c. search needs) write-requires (λ c. search needs) returns)
