@@ -1,7 +1,7 @@
 // What each form does.
 ghost use mathlib.Core.Bool.{cond};
 ghost use mathlib.Core.Path.{_≡_};
-ghost use Prim.Native.Nat.{_+_, _<_, _≤_};
+ghost use Prim.Native.Nat.{_+_, _/_, _<_, _≤_};
 ghost use lib.ListN.{length, getD, set};
 ghost use Rattle.a64_run.specs.Exec.{opValue, compared, holds-even, holds, insert, machine, Within, Reached, Executed};
 ghost use Rattle.a64.specs.Forms.{InRange};
@@ -53,24 +53,33 @@ fn put(x: &mut [u64; 31], n: u32, v: u64)
     }
 }
 
-// The result of a three-register form.
-fn op_value(op: Op, x: u64, y: u64) -> u64
-    ensures { λ r. ⌜ r ≡ opValue op x y ⌝ }
+// Division by 0 gives 0.
+fn udiv(x: u64, y: u64) -> u64
+    ensures { λ r. ⌜ r ≡ x / y ⌝ }
+{
+    if y == 0 { 0 } else { x / y }
+}
+
+// The result of a three-register form on registers n and m. Each arm reads them, so that the decoder's test of the
+// operation is the only one.
+fn op_value(op: Op, x: &[u64; 31], n: u32, m: u32) -> u64
+    requires { ⌜ length (now x) ≡ 31 ⌝ }
+    ensures { λ r. ⌜ r ≡ opValue op (getD (now (x .entry)) n 0) (getD (now (x .entry)) m 0) ⌝ }
 {
     match op {
-        Op::Add => std::num::wrapping_add_u64(x, y),
-        Op::Sub => word::sub(x, y),
-        Op::And => x & y,
-        Op::Orr => x | y,
-        Op::Eor => x ^ y,
-        Op::Lslv => x << (y % 64),
-        Op::Lsrv => x >> (y % 64),
-        Op::Asrv => word::asr(x, (y % 64) as u32),
-        Op::Mul => word::mul(x, y),
-        Op::Smulh => word::mulh(x, y),
-        Op::Umulh => word::mulhu(x, y),
-        Op::Udiv => if y == 0 { 0 } else { x / y },
-        Op::Sdiv => word::sdiv(x, y),
+        Op::Add => std::num::wrapping_add_u64(get(x, n), get(x, m)),
+        Op::Sub => word::sub(get(x, n), get(x, m)),
+        Op::And => get(x, n) & get(x, m),
+        Op::Orr => get(x, n) | get(x, m),
+        Op::Eor => get(x, n) ^ get(x, m),
+        Op::Lslv => get(x, n) << (get(x, m) % 64),
+        Op::Lsrv => get(x, n) >> (get(x, m) % 64),
+        Op::Asrv => word::asr(get(x, n), (get(x, m) % 64) as u32),
+        Op::Mul => word::mul(get(x, n), get(x, m)),
+        Op::Smulh => word::mulh(get(x, n), get(x, m)),
+        Op::Umulh => word::mulhu(get(x, n), get(x, m)),
+        Op::Udiv => udiv(get(x, n), get(x, m)),
+        Op::Sdiv => word::sdiv(get(x, n), get(x, m)),
     }
 }
 
@@ -255,13 +264,7 @@ pub fn exec(
     ensures { λ r. ⌜ Executed f (machine (now (x .entry)) sp flags base (now (memory .entry))) r (now (x .exit)) (now (memory .exit)) ⌝ }
 {
     match f {
-        Form::DataProcessing(op, rd, rn, rm) => result(
-            x,
-            sp,
-            flags,
-            rd,
-            op_value(op, get(x, rn), get(x, rm)),
-        ),
+        Form::DataProcessing(op, rd, rn, rm) => result(x, sp, flags, rd, op_value(op, x, rn, rm)),
         Form::Ldr(rt, rn, imm) => load(x, sp, flags, rt, rn, imm, memory, base),
         Form::Str(rt, rn, imm) => store(x, sp, flags, rt, rn, imm, memory, base),
         Form::Movz(rd, hw, imm) => result(x, sp, flags, rd, insert(0, hw, imm as u64)),

@@ -30,9 +30,9 @@ insert-requires-2 c κs =
 data-processing : tie.Need-returns
 unfolding exec
 data-processing c =
-    let s = c .before .before .before .before .before .before .before .before .before .before .before in
+    let s = c .before .before .before .before .before .before .before .before in
     by-result (s .args .f) (state s) _ _ (c .result .result) _ (s .pre .0)
-    (rw (c .before .before .before .before .before .before .before .before .f .given .1, c .before .op-value .ensures, c .before .before .get2 .ensures, c .before .before .before .before .get .ensures))
+    (rw (c .before .before .before .before .before .f .given .1, c .before .op-value .ensures))
     (c .result .ensures)
 
 loads : tie.Need-returns-2
@@ -54,7 +54,7 @@ unfolding exec
 movk c =
     let s = c .before .before .before .before .before .before .before .before .before in
     by-result (s .args .f) (state s) _ _ (c .result3 .result) _ (s .pre .0)
-    (rw (c .before .before .before .before .before .before .f5 .given .1, c .before .insert2 .ensures, c .before .before .get3 .ensures))
+    (rw (c .before .before .before .before .before .before .f5 .given .1, c .before .insert2 .ensures, c .before .before .get .ensures))
     (c .result3 .ensures)
 
 cmp : tie.Need-returns-6
@@ -62,7 +62,7 @@ unfolding exec
 cmp c =
     let s = c .before .before .before .before .before .before .before .before .before .before in
     by-leave (s .args .f) (state s) _ _ _ (c .leave .result) (s .pre .0)
-    (rw (c .before .before .before .before .before .before .before .f6 .given .1, c .before .compare .ensures, c .before .before .get5 .ensures, c .before .before .before .before .get4 .ensures))
+    (rw (c .before .before .before .before .before .before .before .f6 .given .1, c .before .compare .ensures, c .before .before .get3 .ensures, c .before .before .before .before .get2 .ensures))
     (c .leave .ensures)
 
 csel : tie.Need-returns-7
@@ -78,7 +78,7 @@ unfolding exec
 sxtw c =
     let s = c .before .before .before .before .before .before .before .before .before in
     by-result (s .args .f) (state s) _ _ (c .result5 .result) _ (s .pre .0)
-    (rw (c .before .before .before .before .before .before .f8 .given .1, c .before .sext .ensures, c .before .before .get6 .ensures))
+    (rw (c .before .before .before .before .before .before .f8 .given .1, c .before .sext .ensures, c .before .before .get4 .ensures))
     (c .result5 .ensures)
 
 add-sp : tie.Need-returns-9
@@ -120,8 +120,6 @@ exec-spec =
     tie.close
     (tie.spec
     (λ c. search needs)
-    (λ c κs. search needs)
-    (λ c κs. search needs)
     (λ c κs. search needs)
     (λ c κs. search needs)
     (λ c. search needs)
