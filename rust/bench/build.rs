@@ -11,7 +11,8 @@ fn main() {
         Some(path) => PathBuf::from(path),
         None => {
             println!("cargo:rerun-if-changed={}", root.join("crates").display());
-            let done = Command::new("rt").args(["staticlib", "hilofanur"]).current_dir(&root).status();
+            let done =
+                Command::new("rt").args(["staticlib", "hilofanur"]).current_dir(&root).status();
             assert!(done.is_ok_and(|status| status.success()), "`rt staticlib hilofanur` failed");
             root.join("target/staticlib/libhilofanur.a")
         }

@@ -130,7 +130,9 @@ fn push(random: &mut Random, guest: &mut Vec<u8>, kind: Kind) {
         Immediate(fixed) => fixed | any & 0xFFFF_8F80,
         Shift(fixed) => fixed | any & 0x03FF_8F80,
         ShiftWord(fixed) | Registers(fixed) => fixed | any & 0x01FF_8F80,
-        Compressed(fixed, free) => return guest.extend(((fixed | any & free) as u16).to_le_bytes()),
+        Compressed(fixed, free) => {
+            return guest.extend(((fixed | any & free) as u16).to_le_bytes())
+        }
     };
     guest.extend(word.to_le_bytes());
 }

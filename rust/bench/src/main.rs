@@ -10,6 +10,8 @@ use steppers::{a64_run, rv64_run, A64State};
 
 const SEED: u64 = 0x2B13_4309_95A6_4002;
 const ROUNDS: usize = 40;
+/// Instructions or words of a round.
+const UNITS: usize = 16384;
 
 /// The least time of a round, in nanoseconds per unit, of each of the two, taken in turn.
 fn measure(units: usize, mut one: impl FnMut(), mut other: impl FnMut()) -> (f64, f64) {
@@ -35,11 +37,10 @@ fn registers(random: &mut Random) -> [u64; 32] {
     registers
 }
 
-/// Blocks of `length` instructions.
-fn rv64(length: usize) {
+/// Blocks of `length` instructions, so many of them, in turn.
+fn rv64(length: usize, number: usize) {
     let mut random = Random(SEED);
-    let blocks: Vec<Vec<u8>> =
-        (0..16384 / length).map(|_| rv64_block(&mut random, length)).collect();
+    let blocks: Vec<Vec<u8>> = (0..number).map(|_| rv64_block(&mut random, length)).collect();
     let start = registers(&mut random);
     for block in &blocks {
         let mut plain = start;
@@ -51,27 +52,27 @@ fn rv64(length: usize) {
     }
     let mut bytes = proved::registers_to_bytes(&start);
     let mut plain = start;
+    let turns = UNITS / (number * length);
     let times = measure(
-        blocks.len() * length,
+        turns * number * length,
         || {
-            for block in &blocks {
+            for block in blocks.iter().cycle().take(turns * number) {
                 black_box(proved::rv64_run(block, 0x1000, 64, false, &mut bytes));
             }
         },
         || {
-            for block in &blocks {
+            for block in blocks.iter().cycle().take(turns * number) {
                 black_box(rv64_run(block, 0x1000, 64, false, &mut plain));
             }
         },
     );
-    row(&format!("RV64 run, blocks of {length}"), "instruction", times);
+    row(&format!("RV64 run, {number} blocks of {length}"), "instruction", times);
 }
 
-/// Straight runs of `length` words.
-fn a64(length: usize) {
+/// Straight runs of `length` words, so many of them, in turn.
+fn a64(length: usize, number: usize) {
     let mut random = Random(SEED);
-    let blocks: Vec<Vec<u8>> =
-        (0..(16384 / length).max(1)).map(|_| a64_block(&mut random, length)).collect();
+    let blocks: Vec<Vec<u8>> = (0..number).map(|_| a64_block(&mut random, length)).collect();
     let mut start = A64State { x: std::array::from_fn(|_| random.next()), sp: MIDDLE, nzcv: 0 };
     start.x[0] = MIDDLE;
     let mut memory: Vec<u8> = (0..MEMORY).map(|_| random.next() as u8).collect();
@@ -86,24 +87,25 @@ fn a64(length: usize) {
         assert!(memory == plain_memory);
     }
     let start_bytes = proved::state_to_bytes(&start);
+    let turns = UNITS / (number * length);
     let times = measure(
-        blocks.len() * length,
+        turns * number * length,
         || {
-            for block in &blocks {
+            for block in blocks.iter().cycle().take(turns * number) {
                 let mut bytes = start_bytes;
                 black_box(proved::a64_run(block, 0, &mut bytes, u64::MAX, &mut memory, BASE));
                 black_box(bytes);
             }
         },
         || {
-            for block in &blocks {
+            for block in blocks.iter().cycle().take(turns * number) {
                 let mut plain = start;
                 black_box(a64_run(block, 0, &mut plain, u64::MAX, &mut plain_memory, BASE));
                 black_box(plain);
             }
         },
     );
-    row(&format!("A64 run, straight runs of {length}"), "word", times);
+    row(&format!("A64 run, {number} runs of {length}"), "word", times);
 }
 
 /// What a call costs that runs nothing: an empty block, and one C.NOP.
@@ -191,10 +193,14 @@ fn place(length: usize) {
 
 fn main() {
     println!("{:34} {:>9} {:>9} {:17} {:>6}", "", "proved", "plain", "", "ratio");
-    rv64(64);
-    rv64(8);
-    a64(400);
-    a64(16);
+    rv64(64, 256);
+    rv64(8, 2048);
+    rv64(64, 4);
+    rv64(8, 4);
+    a64(400, 40);
+    a64(16, 1024);
+    a64(400, 1);
+    a64(16, 4);
     calls();
     for length in [64, 1024, 7448] {
         place(length);
