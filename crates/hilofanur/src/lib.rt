@@ -1,0 +1,115 @@
+// The operations over the C boundary: numbers and byte slices.
+ghost use mathlib.Core.Path.{_≡_};
+ghost use Rattle.code_cache.specs.Place.{store-after};
+ghost use Rattle.rv64.specs.Run as Rv64;
+ghost use Rattle.a64_run.specs.Run as R;
+ghost use Rattle.hilofanur.specs.Answers as Answers;
+
+mod a64_state;
+mod numbers;
+mod rv64_hart;
+
+use a64_run::run;
+use rv64::run as rv64_run;
+
+// The refusal, 0 where the code was placed; where it starts; how much of the store is then used.
+#[repr(C)]
+pub struct PlaceAnswer {
+    pub refusal: u64,
+    pub start: u64,
+    pub used: u64,
+}
+
+// The refusal; document 01's end, 0 where refused; the steps done.
+#[repr(C)]
+pub struct A64RunAnswer {
+    pub refusal: u32,
+    pub end: u32,
+    pub steps: u64,
+}
+
+// The refusal; the instructions done; the PC behind them.
+#[repr(C)]
+pub struct Rv64RunAnswer {
+    pub refusal: u32,
+    pub count: u32,
+    pub next_pc: u64,
+}
+
+#[no_mangle]
+pub extern "C" fn hilofanur_place(store: &mut [u8], used: u64, code: &[u8]) -> PlaceAnswer
+    ensures { λ r. ⌜ r ≡ Answers.place (now (store .entry)) used (now (code .entry)) ⌝ }
+    ensures { λ r. ⌜ now (store .exit) ≡ store-after (now (store .entry)) used (now (code .entry)) ⌝ }
+{
+    let placed = code_cache::place(store, used, code);
+    PlaceAnswer {
+        refusal: placed.refusal,
+        start: placed.start,
+        used: placed.used,
+    }
+}
+
+// state: X0 to X30, SP and NZCV, eight bytes each.
+#[no_mangle]
+pub extern "C" fn hilofanur_a64_run(
+    block: &[u8],
+    address: u64,
+    state: &mut [u8; 264],
+    budget: u64,
+    memory: &mut [u8],
+    base: u64,
+) -> A64RunAnswer
+    ensures { λ r. ⌜ r ≡ Answers.a64-of (R.answer (now (block .entry)) address (Answers.a64-state (now (state .entry))) budget (now (memory .entry)) base) ⌝ }
+    ensures { λ r. ⌜ now (state .exit) ≡ Answers.a64-bytes (R.answer (now (block .entry)) address (Answers.a64-state (now (state .entry))) budget (now (memory .entry)) base) (now (state .entry)) ⌝ }
+    ensures { λ r. ⌜ now (memory .exit) ≡ R.memory-after (now (block .entry)) address (Answers.a64-state (now (state .entry))) budget (now (memory .entry)) base ⌝ }
+{
+    let before = a64_state::from_bytes(state);
+    let answer = run::a64_run(block, address, before, budget, memory, base);
+    let refusal = answer.refusal;
+    if refusal != 0 {
+        return A64RunAnswer {
+            refusal: refusal,
+            end: answer.end,
+            steps: answer.steps,
+        };
+    }
+    let after = answer.state;
+    a64_state::to_bytes(after, state);
+    A64RunAnswer {
+        refusal: refusal,
+        end: answer.end,
+        steps: answer.steps,
+    }
+}
+
+// registers: the 32 of them, eight bytes each.
+#[no_mangle]
+pub extern "C" fn hilofanur_rv64_run(
+    guest: &[u8],
+    pc: u64,
+    limit: u32,
+    ignore_ebreak: bool,
+    registers: &mut [u8; 256],
+) -> Rv64RunAnswer
+    ensures { λ r. ⌜ r ≡ Answers.rv64-of (Rv64.answer (now (guest .entry)) (Answers.rv64-hart (now (registers .entry)) pc) limit «ignore_ebreak») ⌝ }
+    ensures { λ r. ⌜ now (registers .exit) ≡ Answers.rv64-bytes (Rv64.answer (now (guest .entry)) (Answers.rv64-hart (now (registers .entry)) pc) limit «ignore_ebreak») (now (registers .entry)) ⌝ }
+{
+    let before = rv64_hart::from_bytes(registers, pc);
+    let answer = rv64_run::rv64_run(guest, before, limit, ignore_ebreak);
+    let why = answer.refusal;
+    let refusal = rv64_run::number(why);
+    let after = answer.hart;
+    if refusal != 0 {
+        return Rv64RunAnswer {
+            refusal: refusal,
+            count: answer.count,
+            next_pc: after.pc,
+        };
+    }
+    rv64_hart::to_bytes(after, registers);
+    Rv64RunAnswer {
+        refusal: refusal,
+        count: answer.count,
+        next_pc: after.pc,
+    }
+}
