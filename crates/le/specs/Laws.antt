@@ -146,7 +146,7 @@ load-other k m i v j hi hj (inr h) =
     (λ t l. let q : i + k + (j - (i + k) + t) ≡ j + t = omega arith in rw q at (store-above k m i v (j - (i + k) + t) (omega arith)))
 
 -- a load of bytes has as many
-bytes-drop : (i : ℕ) (m : List ℕ) → Bytes m → Bytes (drop i m)
+pub bytes-drop : (i : ℕ) (m : List ℕ) → Bytes m → Bytes (drop i m)
 unfolding Bytes
 bytes-drop i m h j = rw (getD-drop i m j 0) (h (i + j))
 
