@@ -1,4 +1,5 @@
 pub mod Tables
-pub mod Registers
+pub mod Steps
 pub mod Fetching
 pub mod Running
+pub mod Refusing

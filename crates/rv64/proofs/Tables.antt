@@ -5,10 +5,7 @@ use mathlib.Core.List.{List, [], _∷_}
 use Prim.Native.Nat.{ℕ, _<_}
 use lib.Dec.{eqb}
 use borrow.Author.Tests.{ne-eqb}
-use Rattle.rv64.specs.declared.alu.Alu.{Alu}
-use Rattle.rv64.specs.declared.decode.Entry.{Entry}
-use Rattle.rv64.specs.declared.decode.Instr.{Instr}
-use Rattle.rv64.specs.Decode.{Table, lookup, entry}
+use Rattle.rv64.specs.Decode.{Table, lookup}
 
 -- n is no key of the table, as the last arm of a `match` on the keys has it; P: what stands before that
 abbrev pub Missed : {A : Type 0} → Type 0 → Table A → ℕ → Type 0
@@ -24,16 +21,12 @@ module _ {A B : Type 0} (n : ℕ) (make : A → B) (other : B) where
   pub missed : (P : Type 0) (t : Table A) → Missed P t n → other ≡ lookup t n make other
   missed P t h = missed-after P t h .1
 
--- an instruction by its table's entry
-abbrev pub made : Entry → (Alu → Instr) → Instr → Instr
-made (Entry.Alu k) make other = make k
-made Entry.Reserved make other = other
+-- two tables' answers that agree entry by entry, and where there is none
+pub either : {A B C : Type 0} (f : A → C) (g : B → C) (b : Bool) {x y : A} {u v : B} → f x ≡ g u → f y ≡ g v → f (cond b x y) ≡ g (cond b u v)
+either f g true p q = p
+either f g false p q = q
 
-by-test : (b : Bool) (k : Alu) (e : Entry) (make : Alu → Instr) (other i : Instr)
-    → made e make other ≡ i → made (cond b (Entry.Alu k) e) make other ≡ cond b (make k) i
-by-test true k e make other i q = refl
-by-test false k e make other i q = q
-
-pub by-entry : (t : Table Alu) (n : ℕ) (make : Alu → Instr) (other : Instr) → made (entry t n) make other ≡ lookup t n make other
-by-entry [] n make other = refl
-by-entry ((k, a) ∷ t) n make other = by-test (eqb n k) a (entry t n) make other _ (by-entry t n make other)
+pub both : {K A B C : Type 0} (f : A → C) (g : B → C) (make : K → A) (made : K → B) {other : A} {rest : B} (t : Table K) (n : ℕ)
+    → ((k : K) → f (make k) ≡ g (made k)) → f other ≡ g rest → f (lookup t n make other) ≡ g (lookup t n made rest)
+both f g make made [] n p q = q
+both f g make made ((k, a) ∷ t) n p q = either f g (eqb n k) (p a) (both f g make made t n p q)

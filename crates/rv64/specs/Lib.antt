@@ -3,4 +3,5 @@ pub mod Decode
 pub mod Compressed
 pub mod Execute
 pub mod Run
+pub mod Step
 pub mod Examples

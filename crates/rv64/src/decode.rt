@@ -1,9 +1,24 @@
-// The 32-bit encodings.
+// The 32-bit encodings, and what their instructions do.
 ghost use mathlib.Core.Path.{_≡_};
+ghost use Prim.Native.Nat.{_<_};
 ghost use Rattle.isa.specs.Formats as F;
 ghost use Rattle.rv64.specs.Decode as D;
+ghost use Rattle.rv64.specs.Execute as X;
+ghost use Rattle.rv64.specs.Step as S;
 use crate::alu::Alu;
 use crate::alu::Cond;
+use crate::alu::bit;
+use crate::alu::quotient;
+use crate::alu::quotient_u;
+use crate::alu::remainder;
+use crate::alu::remainder_u;
+use crate::alu::sextw;
+use crate::execute::Computed;
+use crate::execute::Flow;
+use crate::execute::ended;
+use crate::execute::put;
+use crate::execute::read;
+use crate::execute::set;
 
 // Opcodes.
 const OP: u32 = 0b0110011;
@@ -66,30 +81,6 @@ pub enum Entry {
     Reserved,
 }
 
-fn rd(w: u32) -> u32
-    ensures { λ r. ⌜ r ≡ F.rd w ⌝ }
-{
-    w / 128 % 32
-}
-
-fn funct3(w: u32) -> u32
-    ensures { λ r. ⌜ r ≡ F.funct3 w ⌝ }
-{
-    w / 4096 % 8
-}
-
-fn rs1(w: u32) -> u32
-    ensures { λ r. ⌜ r ≡ F.rs1 w ⌝ }
-{
-    w / 0x8000 % 32
-}
-
-fn rs2(w: u32) -> u32
-    ensures { λ r. ⌜ r ≡ F.rs2 w ⌝ }
-{
-    w / 0x10_0000 % 32
-}
-
 // funct7 and funct3, side by side.
 fn funct10(w: u32) -> u32
     ensures { λ r. ⌜ r ≡ D.funct10 w ⌝ }
@@ -97,187 +88,169 @@ fn funct10(w: u32) -> u32
     w / 0x200_0000 % 128 * 8 + w / 4096 % 8
 }
 
-fn reg(w: u32, k: Alu) -> Instr
-    ensures { λ r. ⌜ r ≡ D.reg w k ⌝ }
-{
-    Instr::Op(k, rd(w), rs1(w), rs2(w))
-}
-
-fn imm(w: u32, k: Alu) -> Instr
-    ensures { λ r. ⌜ r ≡ D.imm w k ⌝ }
-{
-    Instr::OpImm(k, rd(w), rs1(w), isa::decode::imm_i(w))
-}
-
-// A shift by the low six bits of the immediate, or the low five.
-fn shift(w: u32, k: Alu) -> Instr
-    ensures { λ r. ⌜ r ≡ D.shift w k ⌝ }
-{
-    Instr::OpImm(k, rd(w), rs1(w), (w / 0x10_0000 % 64) as u64)
-}
-
-fn shiftw(w: u32, k: Alu) -> Instr
-    ensures { λ r. ⌜ r ≡ D.shiftw w k ⌝ }
-{
-    Instr::OpImm(k, rd(w), rs1(w), (w / 0x10_0000 % 32) as u64)
-}
-
-fn on(w: u32, k: Cond) -> Instr
-    ensures { λ r. ⌜ r ≡ D.on w k ⌝ }
-{
-    Instr::Branch(k, rs1(w), rs2(w), isa::decode::imm_b(w))
-}
-
 // OP, by funct7 and funct3.
-fn op_table(n: u32) -> Entry
-    ensures { λ r. ⌜ r ≡ D.entry D.ops n ⌝ }
+fn op(n: u32, x: u64, y: u64) -> Computed
+    ensures { λ r. ⌜ r ≡ S.computed D.ops n x y Computed.Reserved ⌝ }
 {
     match n {
-        0b0000000_000 => Entry::Alu(Alu::Add),
-        0b0100000_000 => Entry::Alu(Alu::Sub),
-        0b0000000_001 => Entry::Alu(Alu::Sll),
-        0b0000000_010 => Entry::Alu(Alu::Slt),
-        0b0000000_011 => Entry::Alu(Alu::Sltu),
-        0b0000000_100 => Entry::Alu(Alu::Xor),
-        0b0000000_101 => Entry::Alu(Alu::Srl),
-        0b0100000_101 => Entry::Alu(Alu::Sra),
-        0b0000000_110 => Entry::Alu(Alu::Or),
-        0b0000000_111 => Entry::Alu(Alu::And),
-        0b0000001_000 => Entry::Alu(Alu::Mul),
-        0b0000001_001 => Entry::Alu(Alu::Mulh),
-        0b0000001_010 => Entry::Alu(Alu::Mulhsu),
-        0b0000001_011 => Entry::Alu(Alu::Mulhu),
-        0b0000001_100 => Entry::Alu(Alu::Div),
-        0b0000001_101 => Entry::Alu(Alu::Divu),
-        0b0000001_110 => Entry::Alu(Alu::Rem),
-        0b0000001_111 => Entry::Alu(Alu::Remu),
-        _ => Entry::Reserved,
+        0b0000000_000 => Computed::Value(std::num::wrapping_add_u64(x, y)),
+        0b0100000_000 => Computed::Value(word::sub(x, y)),
+        0b0000000_001 => Computed::Value(x << (y % 64)),
+        0b0000000_010 => Computed::Value(bit(word::slt(x, y))),
+        0b0000000_011 => Computed::Value(bit(x < y)),
+        0b0000000_100 => Computed::Value(x ^ y),
+        0b0000000_101 => Computed::Value(x >> (y % 64)),
+        0b0100000_101 => Computed::Value(word::asr(x, (y % 64) as u32)),
+        0b0000000_110 => Computed::Value(x | y),
+        0b0000000_111 => Computed::Value(x & y),
+        0b0000001_000 => Computed::Value(word::mul(x, y)),
+        0b0000001_001 => Computed::Value(word::mulh(x, y)),
+        0b0000001_010 => Computed::Value(word::mulhsu(x, y)),
+        0b0000001_011 => Computed::Value(word::mulhu(x, y)),
+        0b0000001_100 => Computed::Value(quotient(0x8000_0000_0000_0000, x, y)),
+        0b0000001_101 => Computed::Value(quotient_u(0xFFFF_FFFF_FFFF_FFFF, x, y)),
+        0b0000001_110 => Computed::Value(remainder(0x8000_0000_0000_0000, x, y)),
+        0b0000001_111 => Computed::Value(remainder_u(x, y)),
+        _ => Computed::Reserved,
     }
 }
 
-fn op(w: u32) -> Instr
-    ensures { λ r. ⌜ r ≡ D.op w ⌝ }
+// OP-32, by funct7 and funct3; its divisions take these words.
+fn op_32(n: u32, x: u64, y: u64) -> Computed
+    ensures { λ r. ⌜ r ≡ S.computed D.ops32 n x y Computed.Reserved ⌝ }
 {
-    match op_table(funct10(w)) {
-        Entry::Alu(k) => reg(w, k),
-        Entry::Reserved => Instr::Uncovered,
-    }
-}
-
-// OP-32, by funct7 and funct3.
-fn op_32_table(n: u32) -> Entry
-    ensures { λ r. ⌜ r ≡ D.entry D.ops32 n ⌝ }
-{
+    let xw = sextw(x);
+    let yw = sextw(y);
+    let xu = x % 0x1_0000_0000;
+    let yu = y % 0x1_0000_0000;
     match n {
-        0b0000000_000 => Entry::Alu(Alu::Addw),
-        0b0100000_000 => Entry::Alu(Alu::Subw),
-        0b0000000_001 => Entry::Alu(Alu::Sllw),
-        0b0000000_101 => Entry::Alu(Alu::Srlw),
-        0b0100000_101 => Entry::Alu(Alu::Sraw),
-        0b0000001_000 => Entry::Alu(Alu::Mulw),
-        0b0000001_100 => Entry::Alu(Alu::Divw),
-        0b0000001_101 => Entry::Alu(Alu::Divuw),
-        0b0000001_110 => Entry::Alu(Alu::Remw),
-        0b0000001_111 => Entry::Alu(Alu::Remuw),
-        _ => Entry::Reserved,
+        0b0000000_000 => Computed::Value(sextw(std::num::wrapping_add_u64(x, y))),
+        0b0100000_000 => Computed::Value(sextw(word::sub(x, y))),
+        0b0000000_001 => Computed::Value(sextw(x << (y % 32))),
+        0b0000000_101 => Computed::Value(sextw(xu >> (y % 32))),
+        0b0100000_101 => Computed::Value(sextw(word::asr(xw, (y % 32) as u32))),
+        0b0000001_000 => Computed::Value(sextw(word::mul(x, y))),
+        0b0000001_100 => Computed::Value(sextw(quotient(0xFFFF_FFFF_8000_0000, xw, yw))),
+        0b0000001_101 => Computed::Value(sextw(quotient_u(0xFFFF_FFFF, xu, yu))),
+        0b0000001_110 => Computed::Value(sextw(remainder(0xFFFF_FFFF_8000_0000, xw, yw))),
+        0b0000001_111 => Computed::Value(sextw(remainder_u(xu, yu))),
+        _ => Computed::Reserved,
     }
 }
 
-fn op_32(w: u32) -> Instr
-    ensures { λ r. ⌜ r ≡ D.op32 w ⌝ }
+// The shifts of OP-IMM, by the low six bits of the immediate.
+fn shift_imm(w: u32, x: u64) -> Computed
+    ensures { λ r. ⌜ r ≡ S.shiftImm w x ⌝ }
 {
-    match op_32_table(funct10(w)) {
-        Entry::Alu(k) => reg(w, k),
-        Entry::Reserved => Instr::Uncovered,
-    }
-}
-
-fn shift_imm(w: u32) -> Instr
-    ensures { λ r. ⌜ r ≡ D.shiftImm w ⌝ }
-{
+    let shamt = (w / 0x10_0000 % 64) as u64;
     match w / 0x400_0000 % 64 * 8 + w / 4096 % 8 {
-        0b000000_001 => shift(w, Alu::Sll),
-        0b000000_101 => shift(w, Alu::Srl),
-        0b010000_101 => shift(w, Alu::Sra),
-        _ => Instr::Uncovered,
+        0b000000_001 => Computed::Value(x << (shamt % 64)),
+        0b000000_101 => Computed::Value(x >> (shamt % 64)),
+        0b010000_101 => Computed::Value(word::asr(x, (shamt % 64) as u32)),
+        _ => Computed::Reserved,
     }
 }
 
-fn op_imm(w: u32) -> Instr
-    ensures { λ r. ⌜ r ≡ D.opImm w ⌝ }
+fn op_imm(w: u32, x: u64) -> Computed
+    ensures { λ r. ⌜ r ≡ S.opImm w x ⌝ }
 {
-    match funct3(w) {
-        0b000 => imm(w, Alu::Add),
-        0b010 => imm(w, Alu::Slt),
-        0b011 => imm(w, Alu::Sltu),
-        0b100 => imm(w, Alu::Xor),
-        0b110 => imm(w, Alu::Or),
-        0b111 => imm(w, Alu::And),
-        _ => shift_imm(w),
+    let imm = isa::decode::imm_i(w);
+    match w / 4096 % 8 {
+        0b000 => Computed::Value(std::num::wrapping_add_u64(x, imm)),
+        0b010 => Computed::Value(bit(word::slt(x, imm))),
+        0b011 => Computed::Value(bit(x < imm)),
+        0b100 => Computed::Value(x ^ imm),
+        0b110 => Computed::Value(x | imm),
+        0b111 => Computed::Value(x & imm),
+        _ => shift_imm(w, x),
     }
 }
 
-fn shift_imm_32(w: u32) -> Instr
-    ensures { λ r. ⌜ r ≡ D.shiftImm32 w ⌝ }
+// The shifts of OP-IMM-32, by the low five bits of the immediate.
+fn shift_imm_32(w: u32, x: u64) -> Computed
+    ensures { λ r. ⌜ r ≡ S.shiftImm32 w x ⌝ }
 {
+    let shamt = (w / 0x10_0000 % 32) as u64;
     match funct10(w) {
-        0b0000000_001 => shiftw(w, Alu::Sllw),
-        0b0000000_101 => shiftw(w, Alu::Srlw),
-        0b0100000_101 => shiftw(w, Alu::Sraw),
-        _ => Instr::Uncovered,
+        0b0000000_001 => Computed::Value(sextw(x << (shamt % 32))),
+        0b0000000_101 => Computed::Value(sextw(x % 0x1_0000_0000 >> (shamt % 32))),
+        0b0100000_101 => Computed::Value(sextw(word::asr(sextw(x), (shamt % 32) as u32))),
+        _ => Computed::Reserved,
     }
 }
 
-fn op_imm_32(w: u32) -> Instr
-    ensures { λ r. ⌜ r ≡ D.opImm32 w ⌝ }
+fn op_imm_32(w: u32, x: u64) -> Computed
+    ensures { λ r. ⌜ r ≡ S.opImm32 w x ⌝ }
 {
-    match funct3(w) {
-        0b000 => imm(w, Alu::Addw),
-        _ => shift_imm_32(w),
+    match w / 4096 % 8 {
+        0b000 => Computed::Value(sextw(std::num::wrapping_add_u64(x, isa::decode::imm_i(w)))),
+        _ => shift_imm_32(w, x),
     }
 }
 
-fn branch(w: u32) -> Instr
-    ensures { λ r. ⌜ r ≡ D.branch w ⌝ }
+// A branch to one of two places.
+fn branch(n: u32, x: u64, y: u64, to: u64, next: u64) -> Flow
+    ensures { λ r. ⌜ r ≡ S.branched n x y to next ⌝ }
 {
-    match funct3(w) {
-        0b000 => on(w, Cond::Eq),
-        0b001 => on(w, Cond::Ne),
-        0b100 => on(w, Cond::Lt),
-        0b101 => on(w, Cond::Ge),
-        0b110 => on(w, Cond::Ltu),
-        0b111 => on(w, Cond::Geu),
-        _ => Instr::Uncovered,
+    match n {
+        0b000 => ended(x == y, to, next),
+        0b001 => ended(x != y, to, next),
+        0b100 => ended(word::slt(x, y), to, next),
+        0b101 => ended(!word::slt(x, y), to, next),
+        0b110 => ended(x < y, to, next),
+        0b111 => ended(!(x < y), to, next),
+        _ => Flow::Uncovered,
     }
 }
 
-// i where funct3 is below n.
-fn below(w: u32, n: u32, i: Instr) -> Instr
-    ensures { λ r. ⌜ r ≡ D.below w n i ⌝ }
+// flow where funct3 is below n.
+fn below(w: u32, n: u32, flow: Flow) -> Flow
+    ensures { λ r. ⌜ r ≡ S.below w n flow ⌝ }
 {
-    if funct3(w) < n { i } else { Instr::Uncovered }
+    if w / 4096 % 8 < n {
+        flow
+    } else {
+        Flow::Uncovered
+    }
 }
 
-pub fn decode32(w: u32) -> Instr
-    ensures { λ r. ⌜ r ≡ D.decode32 w ⌝ }
+// The instruction of the word w at pc.
+pub fn step32(x: &mut [u64; 32], w: u32, pc: u64) -> Flow
+    ensures { λ r. ⌜ S.Does (X.exec (D.decode32 w) 4 pc (now (x .entry))) r (now (x .exit)) ⌝ }
 {
+    let rd = w / 128 % 32;
+    let a = read(x, w / 0x8000 % 32);
+    let b = read(x, w / 0x10_0000 % 32);
+    let next = std::num::wrapping_add_u64(pc, 4);
     match w % 128 {
-        OP => op(w),
-        OP_IMM => op_imm(w),
-        OP_32 => op_32(w),
-        OP_IMM_32 => op_imm_32(w),
-        LUI => Instr::Lui(rd(w), isa::decode::imm_u(w)),
-        AUIPC => Instr::Auipc(rd(w), isa::decode::imm_u(w)),
-        JAL => Instr::Jal(rd(w), isa::decode::imm_j(w)),
-        JALR => Instr::Jalr(rd(w), rs1(w), isa::decode::imm_i(w)),
-        BRANCH => branch(w),
-        MISC_MEM => below(w, 2, Instr::Nop),
-        LOAD => below(w, 7, Instr::Helper),
-        STORE => below(w, 4, Instr::Helper),
-        LOAD_FP => Instr::Helper,
-        STORE_FP => Instr::Helper,
-        AMO => Instr::Helper,
-        SYSTEM => Instr::Uncovered,
-        _ => Instr::Uncovered,
+        OP => put(x, rd, op(funct10(w), a, b), next),
+        OP_IMM => put(x, rd, op_imm(w, a), next),
+        OP_32 => put(x, rd, op_32(funct10(w), a, b), next),
+        OP_IMM_32 => put(x, rd, op_imm_32(w, a), next),
+        LUI => set(x, rd, isa::decode::imm_u(w), Flow::Next(next)),
+        AUIPC => {
+            let v = std::num::wrapping_add_u64(pc, isa::decode::imm_u(w));
+            set(x, rd, v, Flow::Next(next))
+        }
+        JAL => {
+            let to = std::num::wrapping_add_u64(pc, isa::decode::imm_j(w));
+            set(x, rd, next, Flow::Ended(to))
+        }
+        JALR => {
+            let to = std::num::wrapping_add_u64(a, isa::decode::imm_i(w));
+            set(x, rd, next, Flow::Ended(to / 2 * 2))
+        }
+        BRANCH => {
+            let to = std::num::wrapping_add_u64(pc, isa::decode::imm_b(w));
+            branch(w / 4096 % 8, a, b, to, next)
+        }
+        MISC_MEM => below(w, 2, Flow::Next(next)),
+        LOAD => below(w, 7, Flow::Helper),
+        STORE => below(w, 4, Flow::Helper),
+        LOAD_FP => Flow::Helper,
+        STORE_FP => Flow::Helper,
+        AMO => Flow::Helper,
+        SYSTEM => Flow::Uncovered,
+        _ => Flow::Uncovered,
     }
 }

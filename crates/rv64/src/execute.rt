@@ -2,9 +2,7 @@
 ghost use mathlib.Core.Path.{_≡_};
 ghost use Prim.Native.Nat.{_<_};
 ghost use Rattle.rv64.specs.Execute as X;
-use crate::alu::taken;
-use crate::alu::value;
-use crate::decode::Instr;
+ghost use Rattle.rv64.specs.Step as S;
 
 pub enum Flow {
     // on at this PC
@@ -15,7 +13,13 @@ pub enum Flow {
     Uncovered,
 }
 
-fn read(x: &[u64; 32], n: u32) -> u64
+// What an arithmetic instruction computes.
+pub enum Computed {
+    Value(u64),
+    Reserved,
+}
+
+pub fn read(x: &[u64; 32], n: u32) -> u64
     requires { ⌜ n < 32 ⌝ }
     ensures { λ r. ⌜ r ≡ X.read (now (x .entry)) n ⌝ }
 {
@@ -27,7 +31,7 @@ fn read(x: &[u64; 32], n: u32) -> u64
 }
 
 // Register rd set to v; how the block goes on is handed through.
-fn set(x: &mut [u64; 32], rd: u32, v: u64, flow: Flow) -> Flow
+pub fn set(x: &mut [u64; 32], rd: u32, v: u64, flow: Flow) -> Flow
     requires { ⌜ rd < 32 ⌝ }
     ensures { λ r. ⌜ (r ≡ flow) × (now (x .exit) ≡ X.write (now (x .entry)) rd v) ⌝ }
 {
@@ -39,41 +43,24 @@ fn set(x: &mut [u64; 32], rd: u32, v: u64, flow: Flow) -> Flow
     flow
 }
 
-// The instruction i of n bytes at pc.
-pub fn execute(x: &mut [u64; 32], i: Instr, n: u64, pc: u64) -> Flow
-    requires { ⌜ X.registers i ⌝ }
-    ensures { λ r. ⌜ (r ≡ X.exec i n pc (now (x .entry)) .flow) × (now (x .exit) ≡ X.exec i n pc (now (x .entry)) .x) ⌝ }
+// A computed value put in register rd, with the block going on at next.
+pub fn put(x: &mut [u64; 32], rd: u32, c: Computed, next: u64) -> Flow
+    requires { ⌜ rd < 32 ⌝ }
+    ensures { λ r. ⌜ S.Does (S.put c rd next (now (x .entry))) r (now (x .exit)) ⌝ }
 {
-    let next = std::num::wrapping_add_u64(pc, n);
-    match i {
-        Instr::Op(k, rd, rs1, rs2) => {
-            let v = value(k, read(x, rs1), read(x, rs2));
-            set(x, rd, v, Flow::Next(next))
-        }
-        Instr::OpImm(k, rd, rs1, imm) => {
-            let v = value(k, read(x, rs1), imm);
-            set(x, rd, v, Flow::Next(next))
-        }
-        Instr::Lui(rd, imm) => set(x, rd, imm, Flow::Next(next)),
-        Instr::Auipc(rd, imm) => set(x, rd, std::num::wrapping_add_u64(pc, imm), Flow::Next(next)),
-        Instr::Jal(rd, imm) => set(
-            x,
-            rd,
-            next,
-            Flow::Ended(std::num::wrapping_add_u64(pc, imm)),
-        ),
-        Instr::Jalr(rd, rs1, imm) => {
-            let to = std::num::wrapping_add_u64(read(x, rs1), imm);
-            set(x, rd, next, Flow::Ended(to / 2 * 2))
-        }
-        Instr::Branch(k, rs1, rs2, imm) => {
-            if taken(k, read(x, rs1), read(x, rs2)) {
-                return Flow::Ended(std::num::wrapping_add_u64(pc, imm));
-            }
-            Flow::Ended(next)
-        }
-        Instr::Nop => Flow::Next(next),
-        Instr::Helper => Flow::Helper,
-        Instr::Uncovered => Flow::Uncovered,
+    match c {
+        Computed::Value(v) => set(x, rd, v, Flow::Next(next)),
+        Computed::Reserved => Flow::Uncovered,
+    }
+}
+
+// The block's end at one of two places.
+pub fn ended(taken: bool, to: u64, next: u64) -> Flow
+    ensures { λ r. ⌜ r ≡ S.ended taken to next ⌝ }
+{
+    if taken {
+        Flow::Ended(to)
+    } else {
+        Flow::Ended(next)
     }
 }

@@ -2,13 +2,12 @@
 ghost use mathlib.Core.Path.{_≡_};
 ghost use Prim.Native.Nat.{_≤_};
 ghost use lib.ListN.{length, drop, getD};
-ghost use Rattle.rv64.specs.Execute as X;
 ghost use Rattle.rv64.specs.Run as R;
-use crate::compressed::decode16;
+ghost use Rattle.rv64.specs.Step as S;
+use crate::compressed::step16;
 use crate::decode::Instr;
-use crate::decode::decode32;
+use crate::decode::step32;
 use crate::execute::Flow;
-use crate::execute::execute;
 
 pub struct Hart {
     pub x: [u64; 32],
@@ -20,6 +19,25 @@ pub enum Fetched {
     Missing,
     // and its length in bytes
     Found(Instr, usize),
+}
+
+// The bits of an instruction.
+pub enum Encoding {
+    // fewer bytes are left than the instruction has
+    Missing,
+    Half(u16),
+    Word(u32),
+}
+
+// What a step does.
+pub enum Stepped {
+    NotFetched,
+    // on at this PC, behind an instruction of this many bytes
+    Next(u64, usize),
+    // a jump or a branch ended the block; on at this PC
+    Ended(u64),
+    Helper,
+    Uncovered,
 }
 
 // Why a run stops.
@@ -56,22 +74,45 @@ pub struct Answer {
 const MOST: u32 = 64;
 
 // The instruction at a place in the guest bytes.
-pub fn fetch(guest: &[u8], at: usize, ignore_ebreak: bool) -> Fetched
+pub fn fetch(guest: &[u8], at: usize) -> Encoding
     requires { ⌜ at ≤ length (now guest) ⌝ }
-    ensures { λ r. ⌜ r ≡ R.fetch «ignore_ebreak» (drop at (now (guest .entry))) ⌝ }
+    ensures { λ r. ⌜ r ≡ S.encoding (drop at (now (guest .entry))) ⌝ }
 {
     let left = guest.len() - at;
     if left < 2 {
-        return Fetched::Missing;
+        return Encoding::Missing;
     }
     let low = le::load16(guest, at);
     if low % 4 != 3 {
-        return Fetched::Found(decode16(low, ignore_ebreak), 2);
+        return Encoding::Half(low);
     }
     if left < 4 {
-        return Fetched::Missing;
+        return Encoding::Missing;
     }
-    Fetched::Found(decode32(le::load32(guest, at)), 4)
+    Encoding::Word(le::load32(guest, at))
+}
+
+fn from_flow(flow: Flow, size: usize) -> Stepped
+    ensures { λ r. ⌜ r ≡ S.flowed flow size ⌝ }
+{
+    match flow {
+        Flow::Next(to) => Stepped::Next(to, size),
+        Flow::Ended(to) => Stepped::Ended(to),
+        Flow::Helper => Stepped::Helper,
+        Flow::Uncovered => Stepped::Uncovered,
+    }
+}
+
+// The instruction at a place in the guest bytes, and at pc, on the registers.
+fn step(x: &mut [u64; 32], guest: &[u8], at: usize, ignore_ebreak: bool, pc: u64) -> Stepped
+    requires { ⌜ at ≤ length (now guest) ⌝ }
+    ensures { λ r. ⌜ (r ≡ S.stepped (R.fetch «ignore_ebreak» (drop at (now (guest .entry)))) pc (now (x .entry))) × (now (x .exit) ≡ S.after (R.fetch «ignore_ebreak» (drop at (now (guest .entry)))) pc (now (x .entry))) ⌝ }
+{
+    match fetch(guest, at) {
+        Encoding::Missing => Stepped::NotFetched,
+        Encoding::Half(w) => from_flow(step16(x, w, ignore_ebreak, pc), 2),
+        Encoding::Word(w) => from_flow(step32(x, w, pc), 4),
+    }
 }
 
 // At most limit instructions, the first at the hart's PC.
@@ -86,21 +127,19 @@ pub fn run(guest: &[u8], limit: u32, ignore_ebreak: bool, hart: Hart) -> Ran
             break Stop::Limit;
         }
         let pc = h.pc;
-        match fetch(guest, at, ignore_ebreak) {
-            Fetched::Missing => break Stop::NotFetched,
-            Fetched::Found(i, size) => match execute(&mut h.x, i, size as u64, pc) {
-                Flow::Next(to) => {
-                    h.pc = to;
-                    at += size;
-                }
-                Flow::Ended(to) => {
-                    h.pc = to;
-                    n += 1;
-                    break Stop::Ended;
-                }
-                Flow::Helper => break Stop::Helper,
-                Flow::Uncovered => break Stop::Uncovered,
-            },
+        match step(&mut h.x, guest, at, ignore_ebreak, pc) {
+            Stepped::NotFetched => break Stop::NotFetched,
+            Stepped::Next(to, size) => {
+                h.pc = to;
+                at += size;
+            }
+            Stepped::Ended(to) => {
+                h.pc = to;
+                n += 1;
+                break Stop::Ended;
+            }
+            Stepped::Helper => break Stop::Helper,
+            Stepped::Uncovered => break Stop::Uncovered,
         }
         n += 1;
     };
@@ -108,47 +147,6 @@ pub fn run(guest: &[u8], limit: u32, ignore_ebreak: bool, hart: Hart) -> Ran
         hart: h,
         count: n,
         stop,
-    }
-}
-
-fn covered(i: Instr) -> bool
-    ensures { λ r. ⌜ r ≡ X.covered i ⌝ }
-{
-    match i {
-        Instr::Op(_, _, _, _) => true,
-        Instr::OpImm(_, _, _, _) => true,
-        Instr::Lui(_, _) => true,
-        Instr::Auipc(_, _) => true,
-        Instr::Jal(_, _) => true,
-        Instr::Jalr(_, _, _) => true,
-        Instr::Branch(_, _, _, _) => true,
-        Instr::Nop => true,
-        Instr::Helper => false,
-        Instr::Uncovered => false,
-    }
-}
-
-// Why a run is refused; x0 is what register 0 holds.
-fn refusal_of(guest: &[u8], pc: u64, limit: u32, ignore_ebreak: bool, x0: u64) -> Refusal
-    ensures { λ r. ⌜ r ≡ R.refusalOf (now (guest .entry)) pc limit «ignore_ebreak» x0 ⌝ }
-{
-    if limit == 0 {
-        return Refusal::LimitZero;
-    }
-    if pc % 2 != 0 {
-        return Refusal::OddPc;
-    }
-    match fetch(guest, 0, ignore_ebreak) {
-        Fetched::Missing => Refusal::NotFetched,
-        Fetched::Found(i, _) => {
-            if !covered(i) {
-                return Refusal::NotCovered;
-            }
-            if x0 != 0 {
-                return Refusal::RegisterZero;
-            }
-            Refusal::Accepted
-        }
     }
 }
 
@@ -172,24 +170,53 @@ fn clamped(limit: u32) -> u32
     if limit < MOST { limit } else { MOST }
 }
 
+fn refused(q: Refusal, x: [u64; 32]) -> Answer
+    ensures { λ r. ⌜ r ≡ S.refused q x ⌝ }
+{
+    Answer {
+        refusal: q,
+        hart: Hart { x, pc: 0 },
+        count: 0,
+    }
+}
+
+// Why a run that stopped before the first instruction's end is refused.
+fn at_first(stop: Stop) -> Refusal
+    ensures { λ r. ⌜ r ≡ S.atFirst stop ⌝ }
+{
+    match stop {
+        Stop::NotFetched => Refusal::NotFetched,
+        Stop::Limit => Refusal::NotCovered,
+        Stop::Ended => Refusal::NotCovered,
+        Stop::Helper => Refusal::NotCovered,
+        Stop::Uncovered => Refusal::NotCovered,
+    }
+}
+
 // The operation RV64 run.
 pub fn rv64_run(guest: &[u8], hart: Hart, limit: u32, ignore_ebreak: bool) -> Answer
     ensures { λ r. ⌜ r ≡ R.answer (now (guest .entry)) hart limit «ignore_ebreak» ⌝ }
 {
-    let q = refusal_of(guest, hart.pc, limit, ignore_ebreak, hart.x[0]);
-    if number(q) != 0 {
-        let x = hart.x;
-        return Answer {
-            refusal: q,
-            hart: Hart { x, pc: 0 },
-            count: 0,
-        };
+    let x = hart.x;
+    if limit == 0 {
+        return refused(Refusal::LimitZero, x);
+    }
+    if hart.pc % 2 != 0 {
+        return refused(Refusal::OddPc, x);
     }
     let r = run(guest, clamped(limit), ignore_ebreak, hart);
+    let count = r.count;
+    if count == 0 {
+        let stop = r.stop;
+        return refused(at_first(stop), x);
+    }
+    if x[0] != 0 {
+        return refused(Refusal::RegisterZero, x);
+    }
     let h = r.hart;
     Answer {
-        refusal: q,
+        refusal: Refusal::Accepted,
         hart: h,
-        count: r.count,
+        count,
     }
 }

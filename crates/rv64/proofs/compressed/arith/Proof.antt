@@ -1,26 +1,68 @@
-use Rattle.rv64.specs.Compressed.{arith, ariths, reg}
+use Rattle.rv64.specs.declared.alu.Alu.{Alu}
+use Rattle.rv64.specs.declared.execute.Computed.{Computed}
+use Rattle.rv64.specs.Alu as N
+use Rattle.rv64.specs.Compressed as C
 use Rattle.rv64.proofs.Tables.{missed}
 use borrow.Author.Needs.{needs}
 use Rattle.rv64.proofs.compressed.arith.Statement.{statement}
 use Rattle.rv64.proofs.compressed.arith.Tie as tie
 
+sub-requires : tie.Need-sub-requires
+sub-requires c κs = search needs
+
+sub-requires-2 : tie.Need-sub-requires-2
+sub-requires-2 c κs = search needs
+
+sextw-requires : tie.Need-sextw-requires
+sextw-requires c κs = search needs
+
+wrapping-add-u64-requires : tie.Need-wrapping-add-u64-requires
+wrapping-add-u64-requires c κs = search needs
+
+sextw-requires-2 : tie.Need-sextw-requires-2
+sextw-requires-2 c κs = search needs
+
+returns : tie.Need-returns
+unfolding N.value C.ariths
+returns c = rw (c .sub .ensures, c .before .match .keys1)
+
+returns-2 : tie.Need-returns-2
+unfolding N.value C.ariths
+returns-2 c = rw (c .match .keys2)
+
+returns-3 : tie.Need-returns-3
+unfolding N.value C.ariths
+returns-3 c = rw (c .match .keys3)
+
+returns-4 : tie.Need-returns-4
+unfolding N.value C.ariths
+returns-4 c = rw (c .match .keys4)
+
+returns-5 : tie.Need-returns-5
+unfolding N.value C.ariths
+returns-5 c = rw (c .sextw .ensures, c .before .sub2 .ensures, c .before .before .match .keys5)
+
+returns-6 : tie.Need-returns-6
+unfolding N.value C.ariths
+returns-6 c = rw (c .sextw2 .ensures, c .before .wrapping-add-u64 .ensures, c .before .before .match .keys6)
+
+returns-7 : tie.Need-returns-7
+unfolding N.value C.ariths
+returns-7 c = missed _ (λ (k : Alu). Computed.Value (N.value k (c .before .args .x) (c .before .args .y))) _ _ C.ariths (c .match .rest)
+
 pub arith-spec : {M : Type 1} → statement M
-unfolding arith ariths
 arith-spec =
     tie.close
     (tie.spec
-    (λ c. search needs)
-    (λ c. search needs)
-    (λ c κs. search needs)
-    (λ c κs. search needs)
-    (λ c κs. search needs)
-    (λ c κs. search needs)
-    (λ c κs. search needs)
-    (λ c κs. search needs)
-    (λ c. rw (c .reg .ensures, c .before .match .keys1))
-    (λ c. rw (c .reg2 .ensures, c .before .match .keys2))
-    (λ c. rw (c .reg3 .ensures, c .before .match .keys3))
-    (λ c. rw (c .reg4 .ensures, c .before .match .keys4))
-    (λ c. rw (c .reg5 .ensures, c .before .match .keys5))
-    (λ c. rw (c .reg6 .ensures, c .before .match .keys6))
-    (λ c. missed _ (reg (c .before .args .w)) _ _ ariths (c .match .rest)))
+    sub-requires
+    sub-requires-2
+    sextw-requires
+    wrapping-add-u64-requires
+    sextw-requires-2
+    returns
+    returns-2
+    returns-3
+    returns-4
+    returns-5
+    returns-6
+    returns-7)

@@ -1,10 +1,41 @@
-use Rattle.rv64.specs.Decode.{opImm32, imms32, imm}
+use Rattle.rv64.specs.declared.alu.Alu.{Alu}
+use Rattle.rv64.specs.declared.execute.Computed.{Computed}
+use Rattle.rv64.specs.Alu as N
+use Rattle.rv64.specs.Decode as D
+use Rattle.rv64.specs.Step as S
+use Rattle.isa.specs.Formats as F
 use Rattle.rv64.proofs.Tables.{missed}
 use borrow.Author.Needs.{needs}
 use Rattle.rv64.proofs.decode.op_imm_32.Statement.{statement}
 use Rattle.rv64.proofs.decode.op_imm_32.Tie as tie
 
+imm-i-requires : tie.Need-imm-i-requires
+imm-i-requires c κs = search needs
+
+wrapping-add-u64-requires : tie.Need-wrapping-add-u64-requires
+wrapping-add-u64-requires c κs = search needs
+
+sextw-requires : tie.Need-sextw-requires
+sextw-requires c κs = search needs
+
+shift-imm-32-requires : tie.Need-shift-imm-32-requires
+shift-imm-32-requires c κs = search needs
+
+returns : tie.Need-returns
+unfolding S.opImm32 N.value D.imms32
+returns c = rw (c .sextw .ensures, c .before .wrapping-add-u64 .ensures, c .before .before .imm-i .ensures, c .before .before .before .match .keys1)
+
+returns-2 : tie.Need-returns-2
+unfolding S.opImm32 N.value D.imms32
+returns-2 c = rw (c .shift-imm-32 .ensures) (missed _ (λ (k : Alu). Computed.Value (N.value k (c .before .before .args .x) (F.immI (c .before .before .args .w)))) _ _ D.imms32 (c .before .match .rest))
+
 pub op-imm-32-spec : {M : Type 1} → statement M
-unfolding opImm32 imms32
 op-imm-32-spec =
-    tie.close (tie.spec (λ c κs. search needs) (λ c κs. search needs) (λ c κs. search needs) (λ c. rw (c .imm .ensures, ← c .before .before .funct3 .ensures, c .before .match .keys1)) (λ c. rw (c .shift-imm-32 .ensures, ← c .before .before .funct3 .ensures) (missed _ (imm (c .before .before .before .args .w)) _ _ imms32 (c .before .match .rest))))
+    tie.close
+    (tie.spec
+    imm-i-requires
+    wrapping-add-u64-requires
+    sextw-requires
+    shift-imm-32-requires
+    returns
+    returns-2)

@@ -1,20 +1,63 @@
-use Rattle.rv64.specs.Decode.{shiftImm, shifts, shift}
+use Rattle.rv64.specs.declared.alu.Alu.{Alu}
+use Rattle.rv64.specs.declared.execute.Computed.{Computed}
+use Rattle.rv64.specs.Alu as N
+use Rattle.rv64.specs.Decode as D
+use Rattle.rv64.specs.Step as S
+use Rattle.isa.specs.Formats as F
 use Rattle.rv64.proofs.Tables.{missed}
 use borrow.Author.Needs.{needs}
 use Rattle.rv64.proofs.decode.shift_imm.Statement.{statement}
 use Rattle.rv64.proofs.decode.shift_imm.Tie as tie
 
+cast-shamt : tie.Need-cast-shamt
+cast-shamt c = search needs
+
+mul-match : tie.Need-mul-match
+mul-match c = search needs
+
+add-match : tie.Need-add-match
+add-match c = search needs
+
+shl-t12 : tie.Need-shl-t12
+shl-t12 c = search needs
+
+shr-t14 : tie.Need-shr-t14
+shr-t14 c = search needs
+
+cast-asr : tie.Need-cast-asr
+cast-asr c = search needs
+
+asr-requires : tie.Need-asr-requires
+asr-requires c κs = search needs
+
+returns : tie.Need-returns
+unfolding S.shiftImm N.value D.shifts
+returns c = rw (c .match .keys1)
+
+returns-2 : tie.Need-returns-2
+unfolding S.shiftImm N.value D.shifts
+returns-2 c = rw (c .match .keys2)
+
+returns-3 : tie.Need-returns-3
+unfolding S.shiftImm N.value D.shifts
+returns-3 c = rw (c .asr .ensures, c .before .match .keys3)
+
+returns-4 : tie.Need-returns-4
+unfolding S.shiftImm N.value D.shifts
+returns-4 c = missed _ (λ (k : Alu). Computed.Value (N.value k (c .before .args .x) (F.inst 25 20 (c .before .args .w)))) _ _ D.shifts (c .match .rest)
+
 pub shift-imm-spec : {M : Type 1} → statement M
-unfolding shiftImm shifts
 shift-imm-spec =
     tie.close
     (tie.spec
-    (λ c. search needs)
-    (λ c. search needs)
-    (λ c κs. search needs)
-    (λ c κs. search needs)
-    (λ c κs. search needs)
-    (λ c. rw (c .shift .ensures, c .before .match .keys1))
-    (λ c. rw (c .shift2 .ensures, c .before .match .keys2))
-    (λ c. rw (c .shift3 .ensures, c .before .match .keys3))
-    (λ c. missed _ (shift (c .before .args .w)) _ _ shifts (c .match .rest)))
+    cast-shamt
+    mul-match
+    add-match
+    shl-t12
+    shr-t14
+    cast-asr
+    asr-requires
+    returns
+    returns-2
+    returns-3
+    returns-4)

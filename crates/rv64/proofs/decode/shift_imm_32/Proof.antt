@@ -1,19 +1,75 @@
-use Rattle.rv64.specs.Decode.{shiftImm32, shifts32, shiftw}
+use Rattle.rv64.specs.declared.alu.Alu.{Alu}
+use Rattle.rv64.specs.declared.execute.Computed.{Computed}
+use Rattle.rv64.specs.Alu as N
+use Rattle.rv64.specs.Decode as D
+use Rattle.rv64.specs.Step as S
+use Rattle.isa.specs.Formats as F
 use Rattle.rv64.proofs.Tables.{missed}
 use borrow.Author.Needs.{needs}
 use Rattle.rv64.proofs.decode.shift_imm_32.Statement.{statement}
 use Rattle.rv64.proofs.decode.shift_imm_32.Tie as tie
 
+cast-shamt : tie.Need-cast-shamt
+cast-shamt c = search needs
+
+funct10-requires : tie.Need-funct10-requires
+funct10-requires c κs = search needs
+
+shl-sextw : tie.Need-shl-sextw
+shl-sextw c = search needs
+
+sextw-requires : tie.Need-sextw-requires
+sextw-requires c κs = search needs
+
+shr-sextw : tie.Need-shr-sextw
+shr-sextw c = search needs
+
+sextw-requires-2 : tie.Need-sextw-requires-2
+sextw-requires-2 c κs = search needs
+
+sextw-requires-3 : tie.Need-sextw-requires-3
+sextw-requires-3 c κs = search needs
+
+cast-asr : tie.Need-cast-asr
+cast-asr c = search needs
+
+asr-requires : tie.Need-asr-requires
+asr-requires c κs = search needs
+
+sextw-requires-4 : tie.Need-sextw-requires-4
+sextw-requires-4 c κs = search needs
+
+returns : tie.Need-returns
+unfolding S.shiftImm32 N.value D.shifts32
+returns c = rw (c .sextw .ensures, ← c .before .before .funct10 .ensures, c .before .match .keys1)
+
+returns-2 : tie.Need-returns-2
+unfolding S.shiftImm32 N.value D.shifts32
+returns-2 c = rw (c .sextw2 .ensures, ← c .before .before .funct10 .ensures, c .before .match .keys2)
+
+returns-3 : tie.Need-returns-3
+unfolding S.shiftImm32 N.value D.shifts32
+returns-3 c = rw (c .sextw4 .ensures, c .before .asr .ensures, c .before .before .sextw3 .ensures, ← c .before .before .before .before .funct10 .ensures, c .before .before .before .match .keys3)
+
+returns-4 : tie.Need-returns-4
+unfolding S.shiftImm32 N.value D.shifts32
+returns-4 c = rw (← c .before .funct10 .ensures) (missed _ (λ (k : Alu). Computed.Value (N.value k (c .before .before .args .x) (F.inst 24 20 (c .before .before .args .w)))) _ _ D.shifts32 (c .match .rest))
+
 pub shift-imm-32-spec : {M : Type 1} → statement M
-unfolding shiftImm32 shifts32
 shift-imm-32-spec =
     tie.close
     (tie.spec
-    (λ c κs. search needs)
-    (λ c κs. search needs)
-    (λ c κs. search needs)
-    (λ c κs. search needs)
-    (λ c. rw (c .shiftw .ensures, ← c .before .before .funct10 .ensures, c .before .match .keys1))
-    (λ c. rw (c .shiftw2 .ensures, ← c .before .before .funct10 .ensures, c .before .match .keys2))
-    (λ c. rw (c .shiftw3 .ensures, ← c .before .before .funct10 .ensures, c .before .match .keys3))
-    (λ c. rw (← c .before .funct10 .ensures) (missed _ (shiftw (c .before .before .args .w)) _ _ shifts32 (c .match .rest))))
+    cast-shamt
+    funct10-requires
+    shl-sextw
+    sextw-requires
+    shr-sextw
+    sextw-requires-2
+    sextw-requires-3
+    cast-asr
+    asr-requires
+    sextw-requires-4
+    returns
+    returns-2
+    returns-3
+    returns-4)

@@ -1,0 +1,58 @@
+use mathlib.Core.Path.{refl}
+use Rattle.rv64.specs.Step.{stepped, after}
+use Rattle.rv64.proofs.Fetching.{fetched, decoded}
+use borrow.Author.Needs.{needs}
+use Rattle.rv64.proofs.run.step.Statement.{statement}
+use Rattle.rv64.proofs.run.step.Tie as tie
+
+fetch-requires : tie.Need-fetch-requires
+fetch-requires c κs = search needs
+
+enum-told : tie.Need-enum-told
+enum-told c = search needs
+
+enum-known-w : tie.Need-enum-known-w
+enum-known-w c = search needs
+
+step16-requires : tie.Need-step16-requires
+step16-requires c κs = search needs
+
+from-flow-requires : tie.Need-from-flow-requires
+from-flow-requires c κs = search needs
+
+enum-known-w-2 : tie.Need-enum-known-w-2
+enum-known-w-2 c = search needs
+
+step32-requires : tie.Need-step32-requires
+step32-requires c κs = search needs
+
+from-flow-requires-2 : tie.Need-from-flow-requires-2
+from-flow-requires-2 c κs = search needs
+
+returns : tie.Need-returns
+unfolding stepped after decoded
+returns c = rw (fetched, ← c .before .before .fetch .ensures, c .enum-told .given .1) (refl, refl)
+
+returns-2 : tie.Need-returns-2
+unfolding stepped after decoded
+returns-2 c = rw (c .from-flow .ensures, c .before .step16 .ensures .0, c .before .step16 .ensures .1, fetched, ← c .before .before .before .before .before .before .fetch .ensures, c .before .before .before .before .w .given .1) (refl, refl)
+
+returns-3 : tie.Need-returns-3
+unfolding stepped after decoded
+returns-3 c = rw (c .from-flow2 .ensures, c .before .step32 .ensures .0, c .before .step32 .ensures .1, fetched, ← c .before .before .before .before .before .before .fetch .ensures, c .before .before .before .before .w2 .given .1) (refl, refl)
+
+pub step-spec : {M : Type 1} → statement M
+step-spec =
+    tie.close
+    (tie.spec
+    fetch-requires
+    enum-told
+    enum-known-w
+    step16-requires
+    from-flow-requires
+    enum-known-w-2
+    step32-requires
+    from-flow-requires-2
+    returns
+    returns-2
+    returns-3)

@@ -1,0 +1,90 @@
+-- The stepper's parts, each by the definitions of what an instruction does. Definitions only.
+use mathlib.Core.Bool.{Bool, cond, not}
+use mathlib.Core.Path.{_≡_}
+use mathlib.Core.List.{List}
+use Prim.Native.Nat.{ℕ, _+_, _*_, _%_}
+use lib.Dec.{ltb, eqb}
+use lib.ListN.{length}
+use Rattle.isa.specs.Formats.{inst, funct3, immI}
+use Rattle.rv64.specs.declared.alu.Alu.{Alu}
+use Rattle.rv64.specs.declared.alu.Cond.{Cond}
+use Rattle.rv64.specs.declared.execute.Flow.{Flow}
+use Rattle.rv64.specs.declared.execute.Computed.{Computed}
+use Rattle.rv64.specs.declared.run.Encoding.{Encoding}
+use Rattle.rv64.specs.declared.run.Fetched.{Fetched}
+use Rattle.rv64.specs.declared.run.Stepped.{Stepped}
+use Rattle.rv64.specs.declared.run.Stop.{Stop}
+use Rattle.rv64.specs.declared.run.Refusal.{Refusal}
+use Rattle.rv64.specs.declared.run.Answer.{Answer}
+use Rattle.rv64.specs.Alu.{value, taken}
+use Rattle.rv64.specs.Decode.{Table, lookup, imms, shifts, imms32, shifts32, branches, funct10}
+use Rattle.rv64.specs.Execute.{Step, exec, next, write}
+use Rattle.rv64.specs.Run.{halfword, word, hart}
+
+-- the answer flow and the registers x are those of a step
+abbrev pub Does : Step → Flow → List ℕ → Type 0
+Does s flow x = (flow ≡ s .flow) × (x ≡ s .x)
+
+-- what a table's entry at n computes of x and y
+abbrev pub computed : Table Alu → ℕ → ℕ → ℕ → Computed → Computed
+computed t n x y other = lookup t n (λ (k : Alu). Computed.Value (value k x y)) other
+
+unfoldable pub shiftImm : ℕ → ℕ → Computed
+shiftImm w x = computed shifts (inst 31 26 w * 8 + funct3 w) x (inst 25 20 w) Computed.Reserved
+
+unfoldable pub opImm : ℕ → ℕ → Computed
+opImm w x = computed imms (funct3 w) x (immI w) (shiftImm w x)
+
+unfoldable pub shiftImm32 : ℕ → ℕ → Computed
+shiftImm32 w x = computed shifts32 (funct10 w) x (inst 24 20 w) Computed.Reserved
+
+unfoldable pub opImm32 : ℕ → ℕ → Computed
+opImm32 w x = computed imms32 (funct3 w) x (immI w) (shiftImm32 w x)
+
+-- a computed value in rd
+unfoldable pub put : Computed → ℕ → ℕ → List ℕ → Step
+put (Computed.Value v) rd pc x = next (write x rd v) pc
+put Computed.Reserved rd pc x = record { x = x; flow = Flow.Uncovered }
+
+abbrev pub ended : Bool → ℕ → ℕ → Flow
+ended t to pc = Flow.Ended (cond t to pc)
+
+unfoldable pub branched : ℕ → ℕ → ℕ → ℕ → ℕ → Flow
+branched n x y to pc = lookup branches n (λ (k : Cond). ended (taken k x y) to pc) Flow.Uncovered
+
+unfoldable pub below : ℕ → ℕ → Flow → Flow
+below w n flow = cond (ltb (funct3 w) n) flow Flow.Uncovered
+
+-- ---- the run
+
+unfoldable pub encoding : List ℕ → Encoding
+encoding bs =
+    cond (ltb (length bs) 2) Encoding.Missing
+    (cond (not (eqb (halfword bs % 4) 3)) (Encoding.Half (halfword bs))
+    (cond (ltb (length bs) 4) Encoding.Missing (Encoding.Word (word bs))))
+
+unfoldable pub flowed : Flow → ℕ → Stepped
+flowed (Flow.Next to) size = Stepped.Next to size
+flowed (Flow.Ended to) size = Stepped.Ended to
+flowed Flow.Helper size = Stepped.Helper
+flowed Flow.Uncovered size = Stepped.Uncovered
+
+-- the step of what was fetched, and the registers after it
+unfoldable pub stepped : Fetched → ℕ → List ℕ → Stepped
+stepped Fetched.Missing pc x = Stepped.NotFetched
+stepped (Fetched.Found i size) pc x = flowed (exec i size pc x .flow) size
+
+unfoldable pub after : Fetched → ℕ → List ℕ → List ℕ
+after Fetched.Missing pc x = x
+after (Fetched.Found i size) pc x = exec i size pc x .x
+
+-- the refusal of a run that stopped at its first instruction
+unfoldable pub atFirst : Stop → Refusal
+atFirst Stop.NotFetched = Refusal.NotFetched
+atFirst Stop.Limit = Refusal.NotCovered
+atFirst Stop.Ended = Refusal.NotCovered
+atFirst Stop.Helper = Refusal.NotCovered
+atFirst Stop.Uncovered = Refusal.NotCovered
+
+abbrev pub refused : Refusal → List ℕ → Answer
+refused q x = record { refusal = q; hart = hart x 0; count = 0 }
