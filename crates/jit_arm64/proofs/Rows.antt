@@ -1,0 +1,83 @@
+-- Document 01's marked blocks, as one list over which one fact is shown. Assumes nothing.
+use Prim.Native.Nat.{ℕ, zero, suc, _*_, _-_}
+use mathlib.Core.Path.{_≡_, refl}
+use mathlib.Core.Bool.{Bool, false}
+use mathlib.Core.List.{List, [], _∷_, _++_, map, flatten}
+use lib.ListN.{length, replicate}
+use Rattle.a64.specs.Emitter.{bytes, constant, upper}
+use Rattle.le.specs.Le as L
+use Rattle.word.specs.Word as W
+use Rattle.jit_arm64.specs.declared.Host.{Host}
+use Rattle.jit_arm64.specs.declared.Answer.{Answer}
+use Rattle.jit_arm64.specs.Translate as T
+use Rattle.jit_arm64.specs.Block as B
+use Rattle.jit_arm64.specs.Calls as C
+use Rattle.jit_arm64.specs.Decode as D
+use Rattle.jit_arm64.specs.Instr16 as I
+use Rattle.jit_arm64.specs.Instr32 as J
+use Rattle.jit_arm64.specs.TermHelper as H
+
+host : Host
+host = record { slots = 0; memory = 0x10000; exec32 = 0x20000; exec16 = 0x30000; ebreak = false }
+
+-- the guest bytes, the limit, the PC; the words, the refusal and the count found
+record Row : Type 0 where
+  guest : List ℕ
+  limit : ℕ
+  pc : ℕ
+  words : List ℕ
+  refusal : ℕ
+  count : ℕ
+
+row : List ℕ → ℕ → ℕ → List ℕ → ℕ → Row
+row g l pc ws n = record { guest = g; limit = l; pc = pc; words = ws; refusal = 0; count = n }
+
+refusing : List ℕ → ℕ → ℕ → Row
+refusing g l n = record { guest = g; limit = l; pc = 0x1000; words = []; refusal = n; count = 0 }
+
+nops : ℕ → List ℕ
+nops zero = []
+nops (suc n) = 1 ∷ 0 ∷ nops n
+
+rows : List Row
+rows =
+    row (0x01 ∷ 0x00 ∷ []) 1 0x1000 (0xD2820040 ∷ 0xD2800021 ∷ 0xD65F03C0 ∷ []) 1
+    ∷ row (0x01 ∷ 0x00 ∷ []) 1 0xFFFFFFFFFFFFFFFE (0xD2800000 ∷ 0xD2800021 ∷ 0xD65F03C0 ∷ []) 1
+    ∷ row (0x7D ∷ 0x55 ∷ []) 1 0x1000
+    (0xD29FFFEB ∷ 0xF2BFFFEB ∷ 0xF2DFFFEB ∷ 0xF2FFFFEB ∷ 0xF900280B ∷ 0xD2820040 ∷ 0xD2800021 ∷ 0xD65F03C0 ∷ []) 1
+    ∷ row (0x82 ∷ 0x80 ∷ []) 1 0x1000
+    (0xF9400409 ∷ 0xD29FFFCA ∷ 0xF2BFFFEA ∷ 0xF2DFFFEA ∷ 0xF2FFFFEA ∷ 0x8A0A0120 ∷ 0xD2800021 ∷ 0xD65F03C0 ∷ []) 1
+    ∷ row (0x01 ∷ 0x00 ∷ 0x41 ∷ 0x9C ∷ []) 2 0x1000 (0xF9402009 ∷ 0xF940200A ∷ 0xD2820040 ∷ 0xD2800021 ∷ 0xD65F03C0 ∷ []) 1
+    ∷ refusing (0x41 ∷ 0x9C ∷ []) 1 5
+    ∷ refusing (0x00 ∷ 0x00 ∷ []) 1 5
+    ∷ refusing (0x03 ∷ 0x00 ∷ []) 1 4
+    ∷ refusing [] 0 2
+    ∷ row (nops 65) 65 0x1000 (0xD2821000 ∷ 0xD2800801 ∷ 0xD65F03C0 ∷ []) 64
+    ∷ []
+
+-- what is found of a row, with room for 8 words: the answer, and the output bytes
+record Found : Type 0 where
+  answer : Answer
+  output : List ℕ
+
+room : List ℕ
+room = replicate 32 0xEE
+
+found : Row → Found
+found r =
+    record {
+      answer = T.translate host (r .guest) (r .pc) (r .limit) room;
+      output = T.output-after host (r .guest) (r .pc) (r .limit) room;
+    }
+
+-- what the paper says
+said : Row → Found
+said r =
+    record {
+      answer = record { refusal = r .refusal; length = 4 * length (r .words); count = r .count; helper = 0 };
+      output = bytes (r .words) ++ replicate (32 - 4 * length (r .words)) 0xEE;
+    }
+
+all-rows : map found rows ≡ map said rows
+unfolding rows row refusing nops room found said host T.is-missing T.is-uncovered T.block-bytes T.refusal T.by-helper T.accepted T.translate T.output-after B.fetch-upper B.fetch B.none-outcome B.after B.instr16-turn B.instr-turn B.turn B.step B.walk B.end-calls B.whole-walk C.words C.store-rd D.sign-extend D.imm-ci D.shamt D.imm-addi4spn D.imm-addi16sp D.imm-cj D.imm-cb I.addi4spn I.quadrant-0 I.c-addi I.c-addiw I.c-li I.c-addi16sp I.c-lui I.c-srli I.c-srai I.c-andi I.c-alu I.c-group I.c-j I.c-branch-on I.c-branch I.c-addi16sp-lui I.quadrant-1 I.c-slli I.c-jr I.c-mv I.c-ebreak I.c-jalr I.c-add I.c-jump-move-add I.quadrant-2 I.emit-native-instr16 H.supports H.emit-native-term-helper16 constant upper L.number L.load W.asr flatten
+all-rows = refl

@@ -1,0 +1,276 @@
+-- One turn of the loop: its words, and how many there are. Assumes nothing.
+use Prim.Native.Nat.{ℕ, _+_, _*_, _/_, _%_, _^_, _≤_, _<_, min}
+use native.Mathlib.Omega.{arith}
+use mathlib.Core.Path.{_≡_, refl, sym, ap, _∙_}
+use mathlib.Core.Bool.{Bool, true, false, cond, _||_}
+use mathlib.Core.Logic.{_⊎_, inl, inr}
+use mathlib.Core.List.{List, [], _∷_, _++_, append-nil, map-append, flatten}
+use mathlib.Core.Option.{Option}
+use lib.Dec.{eqb}
+use lib.ListN.{length, take, length-append, length-take}
+use borrow.Author.Tests.{eqb-true}
+use Rattle.a64.specs.Emitter.{max-words, held, encoded, emitted, emitted-all, halfword, constant, upper, Added}
+use Rattle.a64.proofs.Emission.{constant-length, upper-none, emitted-all-new, emitted-fits, length-encoded, emitted-all-append}
+use Rattle.isa.specs.declared.decode.Decoded32.{Decoded32}
+use Rattle.jit_arm64.specs.declared.EmitFlow.{EmitFlow}
+use Rattle.jit_arm64.specs.declared.EmitFlow.the-variants.{Continue, Terminate, None}
+use Rattle.jit_arm64.specs.declared.Emitted.{Emitted}
+use Rattle.jit_arm64.specs.declared.Host.{Host}
+use Rattle.jit_arm64.specs.declared.block.Fetched.{Fetched}
+use Rattle.jit_arm64.specs.declared.block.Fetched.the-variants.{Missing, Half, Word}
+use Rattle.jit_arm64.specs.declared.block.Outcome.{Outcome}
+use Rattle.jit_arm64.specs.declared.block.Outcome.the-variants.{GoOn, End, Help, Pass, Lack}
+use Rattle.jit_arm64.specs.Isa.{OPCODE-LOAD, OPCODE-STORE, OPCODE-LOAD-FP, OPCODE-STORE-FP, OPCODE-SYSTEM, OPCODE-AMO, F3-LB, F3-LH, F3-LW, F3-LD, F3-LBU, F3-LHU, F3-LWU, F3-SB, F3-SH, F3-SW, F3-SD}
+use Rattle.jit_arm64.specs.Decode.{decode32, c-op, c-funct3, imm-i, imm-s}
+use Rattle.jit_arm64.specs.Calls.{Call, emit, mov-imm64, load, groups, words, if-not-0, Emission, Emits, none, terminate, add-x, ldr-x, str-x, mov-x, sub-sp-imm, add-sp-imm, blr, ret}
+use Rattle.jit_arm64.specs.Instr16.{emit-native-instr16, quadrant-0, quadrant-2}
+use Rattle.jit_arm64.specs.Instr32.{emit-native-instr}
+use Rattle.jit_arm64.specs.TermHelper.{call-helper, call-exec, load-calls, store-calls, load-helper, store-helper, load-op, store-op, opcode-helper, memory-funct3, supports, emit-native-term-helper16, emit-native-term-helper32}
+use Rattle.jit_arm64.specs.declared.block.Part.{Part}
+use Rattle.jit_arm64.specs.Block.{Turn, turn, after, none-outcome, instr16-turn, instr-turn, most, turned, PartOf, TurnedOf}
+use Rattle.jit_arm64.proofs.Size.{size, size-append, size-le, if-size, by, Within, instr-size, instr16-size}
+
+-- ---- a helper's call
+
+-- a constant of 16 bits is one word
+constant-small : (rd v : ℕ) → v < 65536 → length (constant rd v) ≡ 1
+constant-small rd v h =
+    let a : halfword 1 v ≡ 0 = omega arith in
+    let b : halfword 2 v ≡ 0 = omega arith in
+    let c : halfword 3 v ≡ 0 = omega arith in
+    constant-length rd v 0 0 0 (ap length (upper-none rd 1 (halfword 1 v) a)) (ap length (upper-none rd 2 (halfword 2 v) b)) (ap length (upper-none rd 3 (halfword 3 v) c))
+
+module _ (slots : ℕ) where
+  call-size : (helper k : ℕ) → size slots (call-helper helper k) ≤ 15
+  call-size helper k =
+      let cs : List Call = mov-imm64 16 helper ∷ emit (sub-sp-imm 16) ∷ emit (str-x 30 31 0) ∷ emit (blr 16) ∷ emit (ldr-x 30 31 0) ∷ emit (add-sp-imm 16) ∷ [] in
+      let ds : List Call = mov-imm64 12 k ∷ emit (add-x 1 1 12) ∷ [] in
+      let es : List Call = emit ret ∷ [] in
+      omega (
+        arith,
+        size-append slots cs (if-not-0 k ds ++ es),
+        size-append slots (if-not-0 k ds) es,
+        size-le slots cs,
+        size-le slots es,
+        if-size slots k ds 5 (size-le slots ds),
+      )
+
+  exec-size : (helper pc instr k : ℕ) → size slots (call-exec helper pc instr k) ≤ 33
+  exec-size helper pc instr k =
+      let cs : List Call = emit (mov-x 0 1) ∷ emit (mov-x 1 2) ∷ emit (mov-x 2 3) ∷ emit (mov-x 3 4) ∷ emit (mov-x 4 5) ∷ mov-imm64 5 instr ∷ mov-imm64 6 pc ∷ [] in
+      omega (arith, size-append slots cs (call-helper helper k), size-le slots cs, call-size helper k)
+
+  -- a constant of 16 bits
+  small : (rd v : ℕ) → v < 65536 → size slots (mov-imm64 rd v ∷ []) ≡ 1
+  unfolding flatten
+  small rd v h = rw (append-nil (constant rd v)) (constant-small rd v h)
+
+  load-size : (helper m pc instr : ℕ) (d : Decoded32) (k : ℕ) → m < 65536 → d .rd < 65536 → size slots (load-calls helper m pc instr d k) ≤ 33
+  load-size helper m pc instr d k h l =
+      let cs : List Call = load 9 (d .rs1) ∷ mov-imm64 10 (imm-i instr) ∷ emit (add-x 11 9 10) ∷ emit (mov-x 0 1) ∷ emit (mov-x 1 2) ∷ emit (mov-x 2 3) ∷ [] in
+      let c3 : List Call = mov-imm64 3 m ∷ [] in
+      let c4 : List Call = mov-imm64 4 (d .rd) ∷ [] in
+      let c5 : List Call = mov-imm64 5 0 ∷ [] in
+      let es : List Call = emit (mov-x 6 11) ∷ mov-imm64 7 pc ∷ [] in
+      let z = call-helper helper k in
+      omega (
+        arith,
+        size-append slots cs (c3 ++ (c4 ++ (c5 ++ (es ++ z)))),
+        size-append slots c3 (c4 ++ (c5 ++ (es ++ z))),
+        size-append slots c4 (c5 ++ (es ++ z)),
+        size-append slots c5 (es ++ z),
+        size-append slots es z,
+        size-le slots cs,
+        small 3 m h,
+        small 4 (d .rd) l,
+        small 5 0 (omega arith),
+        size-le slots es,
+        call-size helper k,
+      )
+
+  store-size : (helper m pc instr : ℕ) (d : Decoded32) (k : ℕ) → m < 65536 → d .rd < 65536 → size slots (store-calls helper m pc instr d k) ≤ 33
+  store-size helper m pc instr d k h l =
+      let cs : List Call = load 9 (d .rs1) ∷ mov-imm64 10 (imm-s instr) ∷ emit (add-x 11 9 10) ∷ load 12 (d .rs2) ∷ emit (mov-x 0 1) ∷ emit (mov-x 1 2) ∷ emit (mov-x 2 3) ∷ [] in
+      let c3 : List Call = mov-imm64 3 m ∷ [] in
+      let c4 : List Call = mov-imm64 4 (d .rd) ∷ [] in
+      let c5 : List Call = emit (mov-x 5 12) ∷ [] in
+      let es : List Call = emit (mov-x 6 11) ∷ mov-imm64 7 pc ∷ [] in
+      let z = call-helper helper k in
+      omega (
+        arith,
+        size-append slots cs (c3 ++ (c4 ++ (c5 ++ (es ++ z)))),
+        size-append slots c3 (c4 ++ (c5 ++ (es ++ z))),
+        size-append slots c4 (c5 ++ (es ++ z)),
+        size-append slots c5 (es ++ z),
+        size-append slots es z,
+        size-le slots cs,
+        small 3 m h,
+        small 4 (d .rd) l,
+        size-le slots c5,
+        size-le slots es,
+        call-size helper k,
+      )
+
+  -- ---- an instruction is a helper's only where it is not inline and leaves nothing
+
+  -- the helper's emitter refuses, or the inline one does with nothing left and the helper's takes the instruction
+  abbrev pub Apart : Emission → Emission → Type 0
+  Apart e helper = (helper ≡ none []) ⊎ ((e ≡ none []) × (helper .flow ≡ Terminate) × (size slots (helper .calls) ≤ 33))
+
+  -- taken, or refused
+  abbrev Either : Emission → Type 0
+  Either helper = (helper ≡ none []) ⊎ ((helper .flow ≡ Terminate) × (size slots (helper .calls) ≤ 33))
+
+  not-0 : (f : ℕ) → memory-funct3 f ≡ true → eqb f 0b000 ≡ false
+  not-0 f h = by (eqb f 0b000) (λ t. let z : _≡_ false true = rw (eqb-true f 0b000 t) at h in cc) (λ t. t)
+
+  not-4 : (f : ℕ) → memory-funct3 f ≡ true → eqb f 0b100 ≡ false
+  not-4 f h = by (eqb f 0b100) (λ t. let z : _≡_ false true = rw (eqb-true f 0b100 t) at h in cc) (λ t. t)
+
+  supported : (e : Bool) (pc instr : ℕ) → supports (c-op instr) (c-funct3 instr) ≡ true → emit-native-instr16 e pc instr ≡ none []
+  unfolding supports emit-native-instr16 quadrant-0 quadrant-2
+  supported e pc instr h =
+      by (eqb (c-op instr) 0b00)
+      (λ t. let m : memory-funct3 (c-funct3 instr) ≡ true = rw t at h in rw (t, not-0 (c-funct3 instr) m))
+      (λ t. by (eqb (c-op instr) 0b10)
+      (λ u. let m : memory-funct3 (c-funct3 instr) ≡ true = rw (t, u) at h in
+      let o : eqb (c-op instr) 0b01 ≡ false = rw (eqb-true (c-op instr) 0b10 u) in
+      rw (t, o, u, not-0 (c-funct3 instr) m, not-4 (c-funct3 instr) m))
+      (λ u. let z : _≡_ false true = rw (t, u) at h in cc))
+
+  pub apart16 : (h : Host) (pc instr k : ℕ) → Apart (emit-native-instr16 (h .ebreak) pc instr) (emit-native-term-helper16 h pc instr k)
+  unfolding emit-native-term-helper16
+  apart16 h pc instr k =
+      by (supports (c-op instr) (c-funct3 instr))
+      (λ t. inr (supported (h .ebreak) pc instr t, rw t, rw t (exec-size (h .exec16) pc instr k)))
+      (λ t. inl (rw t))
+
+  load-either : (h : Host) (pc instr : ℕ) (d : Decoded32) (k funct3 : ℕ) → d .rd < 65536 → Either (load-helper h pc instr d k funct3)
+  unfolding load-helper load-op
+  load-either h pc instr d k funct3 l =
+      by (eqb funct3 F3-LB) (λ t. inr (rw t, rw t (load-size (h .memory) 0 pc instr d k (omega arith) l)))
+      (λ t. rw t (by (eqb funct3 F3-LH) (λ t. inr (rw t, rw t (load-size (h .memory) 1 pc instr d k (omega arith) l)))
+      (λ t. rw t (by (eqb funct3 F3-LW) (λ t. inr (rw t, rw t (load-size (h .memory) 2 pc instr d k (omega arith) l)))
+      (λ t. rw t (by (eqb funct3 F3-LD) (λ t. inr (rw t, rw t (load-size (h .memory) 3 pc instr d k (omega arith) l)))
+      (λ t. rw t (by (eqb funct3 F3-LBU) (λ t. inr (rw t, rw t (load-size (h .memory) 4 pc instr d k (omega arith) l)))
+      (λ t. rw t (by (eqb funct3 F3-LHU) (λ t. inr (rw t, rw t (load-size (h .memory) 5 pc instr d k (omega arith) l)))
+      (λ t. rw t (by (eqb funct3 F3-LWU) (λ t. inr (rw t, rw t (load-size (h .memory) 6 pc instr d k (omega arith) l)))
+      (λ t. inl (rw t))))))))))))))
+
+  store-either : (h : Host) (pc instr : ℕ) (d : Decoded32) (k funct3 : ℕ) → d .rd < 65536 → Either (store-helper h pc instr d k funct3)
+  unfolding store-helper store-op
+  store-either h pc instr d k funct3 l =
+      by (eqb funct3 F3-SB) (λ t. inr (rw t, rw t (store-size (h .memory) 16 pc instr d k (omega arith) l)))
+      (λ t. rw t (by (eqb funct3 F3-SH) (λ t. inr (rw t, rw t (store-size (h .memory) 17 pc instr d k (omega arith) l)))
+      (λ t. rw t (by (eqb funct3 F3-SW) (λ t. inr (rw t, rw t (store-size (h .memory) 18 pc instr d k (omega arith) l)))
+      (λ t. rw t (by (eqb funct3 F3-SD) (λ t. inr (rw t, rw t (store-size (h .memory) 19 pc instr d k (omega arith) l)))
+      (λ t. inl (rw t))))))))
+
+  both : (e helper : Emission) → e ≡ none [] → Either helper → Apart e helper
+  both e helper a (inl b) = inl b
+  both e helper a (inr b) = inr (a, b .0, b .1)
+
+  pub apart32 : (h : Host) (pc instr : ℕ) (d : Decoded32) (k : ℕ) → d .rd < 65536
+      → Apart (emit-native-instr pc instr d) (emit-native-term-helper32 h pc instr d k)
+  unfolding emit-native-instr emit-native-term-helper32 opcode-helper
+  apart32 h pc instr d k l =
+      by (eqb (d .opcode) OPCODE-SYSTEM) (λ t. inl (rw t))
+      (λ s. by (eqb (d .opcode) OPCODE-LOAD)
+      (λ t. both _ _ (rw (eqb-true (d .opcode) OPCODE-LOAD t)) (rw (s, t) (load-either h pc instr d k (d .funct3) l)))
+      (λ u. by (eqb (d .opcode) OPCODE-STORE)
+      (λ t. both _ _ (rw (eqb-true (d .opcode) OPCODE-STORE t)) (rw (s, u, t) (store-either h pc instr d k (d .funct3) l)))
+      (λ v. by (eqb (d .opcode) OPCODE-LOAD-FP)
+      (λ t. both _ _ (rw (eqb-true (d .opcode) OPCODE-LOAD-FP t)) (rw (s, u, v, t) (inr (refl, exec-size (h .exec32) pc instr k))))
+      (λ w. by (eqb (d .opcode) OPCODE-STORE-FP)
+      (λ t. both _ _ (rw (eqb-true (d .opcode) OPCODE-STORE-FP t)) (rw (s, u, v, w, t) (inr (refl, exec-size (h .exec32) pc instr k))))
+      (λ x. by (eqb (d .opcode) OPCODE-AMO)
+      (λ t. both _ _ (rw (eqb-true (d .opcode) OPCODE-AMO t)) (rw (s, u, v, w, x, t) (inr (refl, exec-size (h .exec32) pc instr k))))
+      (λ t. inl (rw (s, u, v, w, x, t))))))))
+
+  -- ---- one instruction, emitted by itself
+
+  helper-size : (e helper : Emission) → Apart e helper → size slots (helper .calls) ≤ 33
+  unfolding flatten
+  helper-size e helper (inl a) = rw a (omega arith)
+  helper-size e helper (inr a) = a .2
+
+  module _ (h : List ℕ) (new : h ≡ []) (e helper : Emission) (n : ℕ) (out : Emitted) (emits : Emits slots h e out)
+      (few : size slots (e .calls) ≤ 29) where
+    alone : held (out .em) ≡ words slots (e .calls)
+    unfolding words
+    alone = emits .words ∙ emitted-all-new h (groups slots (e .calls)) new (omega arith)
+
+    pub goes-on : out .flow ≡ Continue → PartOf slots (after (e .flow) e helper n) (record { em = out .em; outcome = GoOn })
+    unfolding after
+    goes-on t = rw (← emits .flow, t) (record { held-words = alone; outcome = refl })
+
+    pub ends : out .flow ≡ Terminate → PartOf slots (after (e .flow) e helper n) (record { em = out .em; outcome = End })
+    unfolding after
+    ends t = rw (← emits .flow, t) (record { held-words = alone; outcome = refl })
+
+    pub helps : out .flow ≡ None → (r : Emitted) → Emits slots (held (out .em)) helper r → Apart e helper
+        → (p : Part) → p .em ≡ r .em → p .outcome ≡ none-outcome (r .flow) → PartOf slots (after (e .flow) e helper n) p
+    unfolding after words
+    helps t r m a p x y =
+        let l : length (flatten (groups slots (e .calls ++ helper .calls))) ≤ max-words =
+        omega (arith, size-append slots (e .calls) (helper .calls), helper-size e helper a) in
+        rw (← emits .flow, t)
+        (record {
+          held-words = rw (x, m .words, emits .words) (sym (rw map-append (emitted-all-append h (groups slots (e .calls)) (groups slots (helper .calls))))
+              ∙ emitted-all-new h (groups slots (e .calls ++ helper .calls)) new l);
+          outcome = y ∙ ap none-outcome (m .flow);
+        })
+
+  -- how many words a turn adds
+  after-size : (e helper : Emission) (n : ℕ) → size slots (e .calls) ≤ 29 → Apart e helper → (f : EmitFlow) → e .flow ≡ f
+      → size slots ((after f e helper n) .calls) ≤ most ((after f e helper n) .outcome)
+  unfolding after most none-outcome flatten
+  after-size e helper n l a Continue t = l
+  after-size e helper n l a Terminate t = l
+  after-size e helper n l (inl a) None t = rw a (omega (arith, size-append slots (e .calls) []))
+  after-size e helper n l (inr a) None t = rw (a .0, a .1) (a .2)
+
+  pub turn-size : (h : Host) (pc k : ℕ) (f : Fetched) → size slots ((turn h pc k f) .calls) ≤ most ((turn h pc k f) .outcome)
+  unfolding turn instr16-turn instr-turn most flatten
+  turn-size h pc k Missing = omega arith
+  turn-size h pc k (Half w) =
+      let e = emit-native-instr16 (h .ebreak) pc w in
+      after-size e (emit-native-term-helper16 h pc w k) 2 (instr16-size slots (h .ebreak) pc w .within) (apart16 h pc w k) (e .flow) refl
+  turn-size h pc k (Word w) =
+      let e = emit-native-instr pc w (decode32 w) in
+      after-size e (emit-native-term-helper32 h pc w (decode32 w) k) 4 (instr-size slots pc w (decode32 w) .within)
+      (apart32 h pc w (decode32 w) k (omega arith)) (e .flow) refl
+
+  most-33 : (o : Outcome) → most o ≤ 33
+  unfolding most
+  most-33 GoOn = omega arith
+  most-33 End = omega arith
+  most-33 Help = omega arith
+  most-33 Pass = omega arith
+  most-33 Lack = omega arith
+
+  -- the words of a turn behind the first n of l
+  pub appended : (t : Turn) (p : Part) (l : List ℕ) (n : ℕ) (l′ : List ℕ) (r size′ : ℕ) → size slots (t .calls) ≤ most (t .outcome)
+      → length l ≡ max-words → n + 33 < max-words → PartOf slots t p → Added l n l′ r (held (p .em)) → size′ ≡ t .size
+      → TurnedOf slots t l n l′ (record { len = r; size = size′; outcome = p .outcome })
+  unfolding words
+  appended t p l n l′ r size′ few long room part added same =
+      let ws = words slots (t .calls) in
+      let a : length ws ≡ size slots (t .calls) = length-encoded (flatten (groups slots (t .calls))) in
+      let b : length (take n l) ≡ n = rw long at (length-take n l) ∙ (omega arith) in
+      let m = most-33 (t .outcome) in
+      let h : take r l′ ≡ take n l ++ ws = added .holds ∙ rw (part .held-words) (emitted-fits (take n l) ws (omega arith)) in
+      let k : min r max-words ≡ length (take n l) + length ws = sym (rw (added .long) at (length-take r l′)) ∙ ap length h ∙ length-append (take n l) ws in
+      record { long = added .long; holds = h; size = same; outcome = part .outcome; room = omega arith }
+
+  -- nothing behind the first n of l
+  pub lacking : (l : List ℕ) (n : ℕ) → length l ≡ max-words → TurnedOf slots (turned [] 0 Lack) l n l (record { len = n; size = 0; outcome = Lack })
+  unfolding words flatten most
+  lacking l n long = record { long = long; holds = sym (append-nil (take n l)); size = refl; outcome = refl; room = omega arith }
+
+-- an instruction's length
+pub after-length : (f : EmitFlow) (e helper : Emission) (n : ℕ) → n ≡ (after f e helper n) .size
+unfolding after
+after-length Continue e helper n = refl
+after-length Terminate e helper n = refl
+after-length None e helper n = refl

@@ -1,0 +1,220 @@
+// `compile_native_block`: limit, alignment and fetch around the emitters.
+ghost use mathlib.Core.Path.{_≡_};
+ghost use Prim.Native.Nat.{_+_, _*_, _<_, _≤_, min};
+ghost use lib.ListN.{length};
+ghost use Rattle.a64.specs.Emitter.{max-words, held};
+ghost use Rattle.jit_arm64.specs.Block.{max-steps, fetch, fetch-upper, instr16-turn, instr-turn, turn, none-outcome, whole-walk, PartOf, TurnedOf, WalkedOf, BlockOf};
+use crate::EmitFlow;
+use crate::Emitted;
+use crate::Host;
+use a64::A64Emitter;
+use a64::MAX_WORDS;
+
+// What stands at an index of the guest bytes: a halfword is missing, or a 16-bit or a 32-bit instruction.
+pub enum Fetched {
+    Missing,
+    Half(u16),
+    Word(u32),
+}
+
+// What comes of an instruction: the block goes on, ends, or ends by a helper; it is not covered, or lacks a halfword.
+pub enum Outcome {
+    GoOn,
+    End,
+    Help,
+    Pass,
+    Lack,
+}
+
+// Why the walk over the guest code stopped.
+pub enum Stop {
+    Limit,
+    Ended,
+    Helper,
+    Uncovered,
+    NotFetched,
+}
+
+// One instruction's words, and what came of it.
+pub struct Part {
+    pub em: A64Emitter,
+    pub outcome: Outcome,
+}
+
+// The count of the block's words after an instruction, its length in bytes, and what came of it.
+pub struct Turned {
+    pub len: usize,
+    pub size: usize,
+    pub outcome: Outcome,
+}
+
+// The count of the words of all instructions, how many there are, the index behind them, and why the walk stopped.
+pub struct Walked {
+    pub len: usize,
+    pub count: u32,
+    pub index: u64,
+    pub stop: Stop,
+}
+
+// The count of the block's words, its count of instructions, and why it ended.
+pub struct NativeBlock {
+    pub len: usize,
+    pub count: u32,
+    pub stop: Stop,
+}
+
+fn fetch_upper(guest: &[u8], i: usize) -> Fetched
+    requires { ⌜ i + 2 ≤ length (now guest) ⌝ }
+    ensures { λ r. ⌜ r ≡ fetch-upper (now (guest .entry)) i ⌝ }
+{
+    let left = guest.len() - i;
+    if left < 4 {
+        return Fetched::Missing;
+    }
+    let low = le::load16(guest, i) as u32;
+    let upper = le::load16(guest, i + 2) as u32;
+    Fetched::Word(upper * 65536 + low)
+}
+
+fn fetch(pc: u64, guest: &[u8], i: usize) -> Fetched
+    ensures { λ r. ⌜ r ≡ fetch pc (now (guest .entry)) i ⌝ }
+{
+    let odd = pc % 2;
+    if odd == 0 {
+        let n = guest.len();
+        if n < 2 {
+            return Fetched::Missing;
+        }
+        if n - 2 < i {
+            return Fetched::Missing;
+        }
+        let w = le::load16(guest, i);
+        let low = w % 4;
+        if low == 3 {
+            return fetch_upper(guest, i);
+        }
+        return Fetched::Half(w);
+    }
+    Fetched::Missing
+}
+
+// Behind an instruction that is not inline: whether the helper's emitter took it.
+fn helped(out: Emitted) -> Part
+    ensures { λ r. ⌜ (r .em ≡ out .em) × (r .outcome ≡ none-outcome (out .flow)) ⌝ }
+{
+    let flow = out.flow;
+    let em = out.em;
+    match flow {
+        EmitFlow::Terminate => Part {
+            em,
+            outcome: Outcome::Help,
+        },
+        EmitFlow::Continue => Part {
+            em,
+            outcome: Outcome::Pass,
+        },
+        EmitFlow::None => Part {
+            em,
+            outcome: Outcome::Pass,
+        },
+    }
+}
+
+fn instr16_part(host: Host, pc: u64, emitted: u32, instr: u16) -> Part
+    requires { ⌜ host .slots ≤ 32512 ⌝ }
+    ensures { λ r. ⌜ PartOf (host .slots) (instr16-turn host pc emitted instr) r ⌝ }
+{
+    let out = crate::instr16::emit_native_instr16(A64Emitter::new(), host, pc, instr);
+    let flow = out.flow;
+    let em = out.em;
+    match flow {
+        EmitFlow::Continue => Part {
+            em,
+            outcome: Outcome::GoOn,
+        },
+        EmitFlow::Terminate => Part {
+            em,
+            outcome: Outcome::End,
+        },
+        EmitFlow::None => helped(crate::term_helper::emit_native_term_helper16(
+            em,
+            host,
+            pc,
+            instr,
+            emitted,
+        )),
+    }
+}
+
+fn instr_part(host: Host, pc: u64, emitted: u32, instr: u32) -> Part
+    requires { ⌜ host .slots ≤ 32512 ⌝ }
+    ensures { λ r. ⌜ PartOf (host .slots) (instr-turn host pc emitted instr) r ⌝ }
+{
+    let d = isa::decode::decode32(instr);
+    let out = crate::instr32::emit_native_instr(A64Emitter::new(), host.slots, pc, instr, d);
+    let flow = out.flow;
+    let em = out.em;
+    match flow {
+        EmitFlow::Continue => Part {
+            em,
+            outcome: Outcome::GoOn,
+        },
+        EmitFlow::Terminate => Part {
+            em,
+            outcome: Outcome::End,
+        },
+        EmitFlow::None => helped(crate::term_helper::emit_native_term_helper32(
+            em,
+            host,
+            pc,
+            instr,
+            d,
+            emitted,
+        )),
+    }
+}
+
+// One instruction, emitted by itself and appended to the block's words.
+fn compile_instr(
+    words: &mut [u32; MAX_WORDS],
+    at: usize,
+    guest: &[u8],
+    i: usize,
+    pc: u64,
+    host: Host,
+    emitted: u32,
+) -> Turned
+    requires { ⌜ (length (now words) ≡ max-words) × (host .slots ≤ 32512) × (at ≤ 29 * emitted) × (emitted < max-steps) ⌝ }
+    ensures { λ r. ⌜ TurnedOf (host .slots) (turn host pc emitted (fetch pc (now (guest .entry)) i)) (now (words .entry)) at (now (words .exit)) r ⌝ }
+{
+    let found = fetch(pc, guest, i);
+    match found {
+        Fetched::Missing => Turned {
+            len: at,
+            size: 0,
+            outcome: Outcome::Lack,
+        },
+        Fetched::Half(instr) => {
+            let part = instr16_part(host, pc, emitted, instr);
+            let outcome = part.outcome;
+            let em = part.em;
+            let len = a64::append(words, at, em);
+            Turned {
+                len,
+                size: 2,
+                outcome,
+            }
+        }
+        Fetched::Word(instr) => {
+            let part = instr_part(host, pc, emitted, instr);
+            let outcome = part.outcome;
+            let em = part.em;
+            let len = a64::append(words, at, em);
+            Turned {
+                len,
+                size: 4,
+                outcome,
+            }
+        }
+    }
+}
