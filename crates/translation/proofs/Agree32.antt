@@ -1,0 +1,340 @@
+-- Every 32-bit encoding: the Rust's emission agrees with the ISA's instruction. Assumes nothing.
+use mathlib.Core.Path.{_≡_, refl, sym, ap, _∙_}
+use mathlib.Core.Bool.{Bool, true, false, cond, _&&_, _||_}
+use mathlib.Core.List.{List, [], _∷_, _++_}
+use Prim.Native.Nat.{ℕ, zero, suc, _+_, _*_, _/_, _%_, _^_, _≤_, _<_}
+use native.Mathlib.Omega.{arith}
+use lib.Dec.{eqb, ltb, T}
+use lib.ListN.{getD}
+use borrow.Author.Tests.{eqb-true, eqb-false, eq-eqb, ne-eqb}
+use Rattle.word.specs.Word.{add}
+use Rattle.isa.specs.declared.classes.Class.{Class}
+use Rattle.isa.specs.Classes.{classOf}
+use Rattle.isa.specs.Formats.{inst, opcode, rd, rs1, rs2, funct3, funct7, immI, immB, immU, immJ}
+use Rattle.rv64.specs.declared.alu.Alu.{Alu}
+use Rattle.rv64.specs.declared.alu.Cond.{Cond}
+use Rattle.rv64.specs.declared.decode.Instr.{Instr}
+use Rattle.rv64.specs.Alu.{value}
+use Rattle.rv64.specs.Decode as D
+use Rattle.rv64.specs.Decode.{Table, lookup}
+use Rattle.jit_arm64.specs.Calls.{Call, emit, mov-imm64, load, store, Emission, continue, terminate, none, behind, store-rd, then-store-rd, cmp-x}
+use Rattle.jit_arm64.specs.Decode as J
+use Rattle.jit_arm64.specs.Instr32 as E
+use Rattle.jit_arm64.proofs.Decoding.{imm-i-is, imm-b-is, imm-u-is, imm-j-is}
+use Rattle.translation.proofs.Calls.{Host, Kept, calls-run}
+use Rattle.translation.proofs.Alus.{body, slliw, srliw, sraiw, body-law, slliw-law, srliw-law, sraiw-law}
+use Rattle.translation.proofs.Instrs.{Agrees, Fine, nothing, one, two, with-constant, body-fine, slliw-fine, srliw-fine, sraiw-fine, condition, op-agrees, imm-agrees, lui-agrees, auipc-agrees, jal-agrees, jalr-agrees, branch-agrees, nop-agrees, uncovered-agrees, helper-agrees}
+
+-- what holds at 0 to 7 holds below 8
+pub digit : (P : ℕ → Type 0) → P 0 → P 1 → P 2 → P 3 → P 4 → P 5 → P 6 → P 7 → (n : ℕ) → n < 8 → P n
+digit P a b c d e f g h zero l = a
+digit P a b c d e f g h (suc zero) l = b
+digit P a b c d e f g h (suc (suc zero)) l = c
+digit P a b c d e f g h (suc (suc (suc zero))) l = d
+digit P a b c d e f g h (suc (suc (suc (suc zero)))) l = e
+digit P a b c d e f g h (suc (suc (suc (suc (suc zero))))) l = f
+digit P a b c d e f g h (suc (suc (suc (suc (suc (suc zero)))))) l = g
+digit P a b c d e f g h (suc (suc (suc (suc (suc (suc (suc zero))))))) l = h
+digit P a b c d e f g h (suc (suc (suc (suc (suc (suc (suc (suc n)))))))) l = absurd (omega arith)
+
+-- ---- tables: a key over 8 that no entry has
+
+heads : {A : Type 0} → ℕ → ℕ → ℕ → Table A → Bool
+heads a b c [] = true
+heads a b c ((k, x) ∷ t) = (eqb (k / 8) a || (eqb (k / 8) b || eqb (k / 8) c)) && heads a b c t
+
+is-head : (k a b c : ℕ) (p q r s : Bool) → eqb (k / 8) a ≡ p → eqb (k / 8) b ≡ q → eqb (k / 8) c ≡ r → T ((p || (q || r)) && s)
+    → (k / 8 ≡ a → ⊥) → (k / 8 ≡ b → ⊥) → (k / 8 ≡ c → ⊥) → ⊥
+is-head k a b c true q r s e f g t x y z = x (eqb-true (k / 8) a e)
+is-head k a b c false true r s e f g t x y z = y (eqb-true (k / 8) b f)
+is-head k a b c false false true s e f g t x y z = z (eqb-true (k / 8) c g)
+is-head k a b c false false false s e f g t x y z = t
+
+and-snd : (p s : Bool) → T (p && s) → T s
+and-snd true s t = t
+and-snd false s t = absurd t
+
+absent : {A : Type 0} (a b c : ℕ) (t : Table A) (n : ℕ) → T (heads a b c t) → (n / 8 ≡ a → ⊥) → (n / 8 ≡ b → ⊥) → (n / 8 ≡ c → ⊥)
+    → (make : A → Instr) (other : Instr) → lookup t n make other ≡ other
+unfolding heads
+absent a b c [] n h x y z make other = refl
+absent a b c ((k, v) ∷ t) n h x y z make other =
+    rw
+    (ne-eqb n k
+    (λ e.
+    is-head k a b c _ _ _ (heads a b c t) refl refl refl h (λ q. x (ap (λ (m : ℕ). m / 8) e ∙ q)) (λ q. y (ap (λ (m : ℕ). m / 8) e ∙ q))
+    (λ q. z (ap (λ (m : ℕ). m / 8) e ∙ q))))
+    (absent a b c t n (and-snd (eqb (k / 8) a || (eqb (k / 8) b || eqb (k / 8) c)) _ h) x y z make other)
+
+-- ---- OP and OP-32: an entry of the table, or none, and the Rust's arm
+
+data Arm (t : Table Alu) (key : ℕ) (e : Emission) : Type 0 where
+  found : (k : Alu) → ((make : Alu → Instr) (other : Instr) → lookup t key make other ≡ make k) → e ≡ continue (body k) → Arm t key e
+  missing : ((make : Alu → Instr) (other : Instr) → lookup t key make other ≡ other) → e ≡ none [] → Arm t key e
+
+over-8 : (f7 f3 : ℕ) → f3 < 8 → (f7 * 8 + f3) / 8 ≡ f7
+over-8 f7 f3 h = omega arith
+
+module _ (f3 : ℕ) (h : f3 < 8) where
+  op-arm-is : (f7 : ℕ) (a b c : Bool) → eqb f7 0 ≡ a → eqb f7 32 ≡ b → eqb f7 1 ≡ c → Arm D.ops (f7 * 8 + f3) (E.op-arm f7 f3)
+  unfolding D.ops E.op-arm body
+  op-arm-is f7 true b c p q r =
+      rw (eqb-true f7 0 p)
+      (digit (λ n. Arm D.ops (0 * 8 + n) (E.op-arm 0 n))
+      (found Alu.Add (λ m o. refl) refl) (found Alu.Sll (λ m o. refl) refl) (found Alu.Slt (λ m o. refl) refl) (found Alu.Sltu (λ m o. refl) refl)
+      (found Alu.Xor (λ m o. refl) refl) (found Alu.Srl (λ m o. refl) refl) (found Alu.Or (λ m o. refl) refl) (found Alu.And (λ m o. refl) refl) f3 h)
+  op-arm-is f7 false true c p q r =
+      rw (eqb-true f7 32 q)
+      (digit (λ n. Arm D.ops (32 * 8 + n) (E.op-arm 32 n))
+      (found Alu.Sub (λ m o. refl) refl) (missing (λ m o. refl) refl) (missing (λ m o. refl) refl) (missing (λ m o. refl) refl)
+      (missing (λ m o. refl) refl) (found Alu.Sra (λ m o. refl) refl) (missing (λ m o. refl) refl) (missing (λ m o. refl) refl) f3 h)
+  op-arm-is f7 false false true p q r =
+      rw (eqb-true f7 1 r)
+      (digit (λ n. Arm D.ops (1 * 8 + n) (E.op-arm 1 n))
+      (found Alu.Mul (λ m o. refl) refl) (found Alu.Mulh (λ m o. refl) refl) (found Alu.Mulhsu (λ m o. refl) refl) (found Alu.Mulhu (λ m o. refl) refl)
+      (found Alu.Div (λ m o. refl) refl) (found Alu.Divu (λ m o. refl) refl) (found Alu.Rem (λ m o. refl) refl) (found Alu.Remu (λ m o. refl) refl) f3 h)
+  op-arm-is f7 false false false p q r =
+      let e = over-8 f7 f3 h in
+      missing
+      (absent 0 32 1 D.ops (f7 * 8 + f3) (unfold heads in tt) (λ x. eqb-false f7 0 p (sym e ∙ x)) (λ x. eqb-false f7 32 q (sym e ∙ x))
+      (λ x. eqb-false f7 1 r (sym e ∙ x)))
+      (rw (p, q, r))
+
+  op-32-arm-is : (f7 : ℕ) (a b c : Bool) → eqb f7 0 ≡ a → eqb f7 32 ≡ b → eqb f7 1 ≡ c → Arm D.ops32 (f7 * 8 + f3) (E.op-32-arm f7 f3)
+  unfolding D.ops32 E.op-32-arm body
+  op-32-arm-is f7 true b c p q r =
+      rw (eqb-true f7 0 p)
+      (digit (λ n. Arm D.ops32 (0 * 8 + n) (E.op-32-arm 0 n))
+      (found Alu.Addw (λ m o. refl) refl) (found Alu.Sllw (λ m o. refl) refl) (missing (λ m o. refl) refl) (missing (λ m o. refl) refl)
+      (missing (λ m o. refl) refl) (found Alu.Srlw (λ m o. refl) refl) (missing (λ m o. refl) refl) (missing (λ m o. refl) refl) f3 h)
+  op-32-arm-is f7 false true c p q r =
+      rw (eqb-true f7 32 q)
+      (digit (λ n. Arm D.ops32 (32 * 8 + n) (E.op-32-arm 32 n))
+      (found Alu.Subw (λ m o. refl) refl) (missing (λ m o. refl) refl) (missing (λ m o. refl) refl) (missing (λ m o. refl) refl)
+      (missing (λ m o. refl) refl) (found Alu.Sraw (λ m o. refl) refl) (missing (λ m o. refl) refl) (missing (λ m o. refl) refl) f3 h)
+  op-32-arm-is f7 false false true p q r =
+      rw (eqb-true f7 1 r)
+      (digit (λ n. Arm D.ops32 (1 * 8 + n) (E.op-32-arm 1 n))
+      (found Alu.Mulw (λ m o. refl) refl) (missing (λ m o. refl) refl) (missing (λ m o. refl) refl) (missing (λ m o. refl) refl)
+      (found Alu.Divw (λ m o. refl) refl) (found Alu.Divuw (λ m o. refl) refl) (found Alu.Remw (λ m o. refl) refl) (found Alu.Remuw (λ m o. refl) refl) f3 h)
+  op-32-arm-is f7 false false false p q r =
+      let e = over-8 f7 f3 h in
+      missing
+      (absent 0 32 1 D.ops32 (f7 * 8 + f3) (unfold heads in tt) (λ x. eqb-false f7 0 p (sym e ∙ x)) (λ x. eqb-false f7 32 q (sym e ∙ x))
+      (λ x. eqb-false f7 1 r (sym e ∙ x)))
+      (rw (p, q, r))
+
+-- ---- the opcodes that the Rust names, and any other
+
+data Opcode : ℕ → Type 0 where
+  lui : Opcode 0x37
+  auipc : Opcode 0x17
+  jal : Opcode 0x6F
+  jalr : Opcode 0x67
+  branch : Opcode 0x63
+  op-imm : Opcode 0x13
+  op-imm-32 : Opcode 0x1B
+  op-32 : Opcode 0x3B
+  op : Opcode 0x33
+  misc-mem : Opcode 0x0F
+  other : (n : ℕ) → (eqb n 0x37 ≡ false) × (eqb n 0x17 ≡ false) × (eqb n 0x6F ≡ false) × (eqb n 0x67 ≡ false) × (eqb n 0x63 ≡ false)
+      × (eqb n 0x13 ≡ false) × (eqb n 0x1B ≡ false) × (eqb n 0x3B ≡ false) × (eqb n 0x33 ≡ false) × (eqb n 0x0F ≡ false) → Opcode n
+
+is : (n k : ℕ) → Opcode k → (eqb n k ≡ false → Opcode n) → Opcode n
+is n k y no-k = by (eqb n k) refl
+  where
+    by : (b : Bool) → eqb n k ≡ b → Opcode n
+    by true q = rw (eqb-true n k q) y
+    by false q = no-k q
+
+opcode-of : (n : ℕ) → Opcode n
+opcode-of n =
+    is n 0x37 lui (λ a. is n 0x17 auipc (λ b. is n 0x6F jal (λ c. is n 0x67 jalr (λ d. is n 0x63 branch (λ e. is n 0x13 op-imm (λ f.
+    is n 0x1B op-imm-32 (λ g. is n 0x3B op-32 (λ h. is n 0x33 op (λ i. is n 0x0F misc-mem (λ j. other n (a, b, c, d, e, f, g, h, i, j)))))))))))
+
+-- ---- the encodings
+
+low-fields : (w : ℕ) → (rd w < 32) × (rs1 w < 32) × (rs2 w < 32)
+low-fields w = (omega arith, omega arith, omega arith)
+
+module _ (r₀ : ℕ → ℕ) (pc : ℕ) (v : Host) (κ : Kept r₀ true v) (z : getD (v .slots) 0 0 ≡ 0) (w : ℕ) (hw : w < 2 ^ 32) where
+  f3-lt : funct3 w < 8
+  f3-lt = omega arith
+
+  op-by : Arm D.ops (D.funct10 w) (E.op-arm (funct7 w) (funct3 w)) → Agrees 4 pc v (D.op w) (E.op (J.decode32 w))
+  unfolding D.op E.op store-rd
+  op-by (found k l e) = rw (l (D.reg w) Instr.Uncovered, e) (op-agrees r₀ 4 pc v κ z k (rd w) (rs1 w) (rs2 w) (omega arith) (omega arith) (omega arith))
+  op-by (missing l e) =
+      rw (l (D.reg w) Instr.Uncovered, e)
+      (uncovered-agrees r₀ 4 pc v κ z (load 9 (rs1 w) ∷ load 10 (rs2 w) ∷ []) (two (rs1 w) (rs2 w) (omega arith) (omega arith)))
+
+  op-32-by : Arm D.ops32 (D.funct10 w) (E.op-32-arm (funct7 w) (funct3 w)) → Agrees 4 pc v (D.op32 w) (E.op-32 (J.decode32 w))
+  unfolding D.op32 E.op-32 store-rd
+  op-32-by (found k l e) = rw (l (D.reg w) Instr.Uncovered, e) (op-agrees r₀ 4 pc v κ z k (rd w) (rs1 w) (rs2 w) (omega arith) (omega arith) (omega arith))
+  op-32-by (missing l e) =
+      rw (l (D.reg w) Instr.Uncovered, e)
+      (uncovered-agrees r₀ 4 pc v κ z (load 9 (rs1 w) ∷ load 10 (rs2 w) ∷ []) (two (rs1 w) (rs2 w) (omega arith) (omega arith)))
+
+  -- with the immediate of type I
+  imm-is : (k : Alu) → Agrees 4 pc v (D.imm w k) (behind (load 9 (rs1 w) ∷ []) (then-store-rd (rd w) (continue (mov-imm64 10 (J.imm-i w) ∷ body k))))
+  imm-is k =
+      rw (imm-i-is w hw)
+      (imm-agrees r₀ 4 pc v κ z (body k) k (rd w) (rs1 w) (immI w) (body-fine k) (λ u a b. body-law k u a (rw b (omega arith))) (omega arith) (omega arith) (omega arith))
+
+  -- shifts by an immediate
+  shift-is : (k : Alu) → Agrees 4 pc v (D.shift w k) (behind (load 9 (rs1 w) ∷ mov-imm64 10 (w / 2 ^ 20 % 4096 % 64) ∷ []) (then-store-rd (rd w) (continue (body k))))
+  shift-is k =
+      let e : w / 2 ^ 20 % 4096 % 64 ≡ inst 25 20 w = omega arith in
+      rw e
+      (imm-agrees r₀ 4 pc v κ z (body k) k (rd w) (rs1 w) (inst 25 20 w) (body-fine k) (λ u a b. body-law k u a (rw b (omega arith))) (omega arith) (omega arith) (omega arith))
+
+  only-load : Agrees 4 pc v Instr.Uncovered (none (load 9 (rs1 w) ∷ []))
+  only-load = uncovered-agrees r₀ 4 pc v κ z (load 9 (rs1 w) ∷ []) (one (rs1 w) (omega arith))
+
+  -- imm[11:6] of a shift
+  hi-is : w / 2 ^ 20 % 4096 / 2 ^ 6 % 64 ≡ w / 2 ^ 26 % 64
+  hi-is = omega arith
+
+  slli-by : (b : Bool) → eqb (w / 2 ^ 26 % 64) 0 ≡ b → Agrees 4 pc v (lookup D.shifts (w / 2 ^ 26 % 64 * 8 + 1) (D.shift w) Instr.Uncovered)
+      (behind (load 9 (rs1 w) ∷ []) (then-store-rd (rd w) (E.op-imm-arm (J.imm-i w) (w / 2 ^ 20 % 4096) 1)))
+  unfolding D.shifts E.op-imm-arm store-rd
+  slli-by true p = rw (hi-is, eqb-true (w / 2 ^ 26 % 64) 0 p) (unfold body in (shift-is Alu.Sll))
+  slli-by false p =
+      let n : w / 2 ^ 26 % 64 ≡ 0 → ⊥ = eqb-false (w / 2 ^ 26 % 64) 0 p in
+      let k = w / 2 ^ 26 % 64 * 8 + 1 in
+      rw (hi-is, p, ne-eqb k 1 (λ e. n (omega arith)), ne-eqb k 5 (λ e. omega arith), ne-eqb k 133 (λ e. omega arith)) only-load
+
+  srli-by : (b c : Bool) → eqb (w / 2 ^ 26 % 64) 0 ≡ b → eqb (w / 2 ^ 26 % 64) 16 ≡ c
+      → Agrees 4 pc v (lookup D.shifts (w / 2 ^ 26 % 64 * 8 + 5) (D.shift w) Instr.Uncovered)
+      (behind (load 9 (rs1 w) ∷ []) (then-store-rd (rd w) (E.op-imm-arm (J.imm-i w) (w / 2 ^ 20 % 4096) 5)))
+  unfolding D.shifts E.op-imm-arm store-rd
+  srli-by true c p q = rw (hi-is, eqb-true (w / 2 ^ 26 % 64) 0 p) (unfold body in (shift-is Alu.Srl))
+  srli-by false true p q = rw (hi-is, eqb-true (w / 2 ^ 26 % 64) 16 q) (unfold body in (shift-is Alu.Sra))
+  srli-by false false p q =
+      let n : w / 2 ^ 26 % 64 ≡ 0 → ⊥ = eqb-false (w / 2 ^ 26 % 64) 0 p in
+      let m : w / 2 ^ 26 % 64 ≡ 16 → ⊥ = eqb-false (w / 2 ^ 26 % 64) 16 q in
+      let k = w / 2 ^ 26 % 64 * 8 + 5 in
+      rw (hi-is, p, q, ne-eqb k 1 (λ e. omega arith), ne-eqb k 5 (λ e. n (omega arith)), ne-eqb k 133 (λ e. m (omega arith)))
+      (uncovered-agrees r₀ 4 pc v κ z (load 9 (rs1 w) ∷ mov-imm64 10 (w / 2 ^ 20 % 4096 % 64) ∷ [])
+      (with-constant (rs1 w) (w / 2 ^ 20 % 4096 % 64) (omega arith) (omega arith)))
+
+  op-imm-by : (t : ℕ) → t < 8 → Agrees 4 pc v (lookup D.imms t (D.imm w) (lookup D.shifts (w / 2 ^ 26 % 64 * 8 + t) (D.shift w) Instr.Uncovered))
+      (behind (load 9 (rs1 w) ∷ []) (then-store-rd (rd w) (E.op-imm-arm (J.imm-i w) (w / 2 ^ 20 % 4096) t)))
+  unfolding D.imms E.op-imm-arm store-rd
+  op-imm-by =
+      digit
+      (λ t. Agrees 4 pc v (lookup D.imms t (D.imm w) (lookup D.shifts (w / 2 ^ 26 % 64 * 8 + t) (D.shift w) Instr.Uncovered))
+      (behind (load 9 (rs1 w) ∷ []) (then-store-rd (rd w) (E.op-imm-arm (J.imm-i w) (w / 2 ^ 20 % 4096) t))))
+      (unfold body in (imm-is Alu.Add)) (slli-by (eqb (w / 2 ^ 26 % 64) 0) refl) (unfold body in (imm-is Alu.Slt)) (unfold body in (imm-is Alu.Sltu))
+      (unfold body in (imm-is Alu.Xor)) (srli-by (eqb (w / 2 ^ 26 % 64) 0) (eqb (w / 2 ^ 26 % 64) 16) refl refl) (unfold body in (imm-is Alu.Or)) (unfold body in (imm-is Alu.And))
+
+  -- OP-IMM-32: the shifts of a word
+  word-shift-is : (cs : List Call) (k : Alu) → Fine cs → ((u : Host) → u .r 10 < 32 → calls-run cs u .r 11 ≡ value k (u .r 9) (u .r 10))
+      → Agrees 4 pc v (D.shiftw w k) (behind (load 9 (rs1 w) ∷ mov-imm64 10 (w / 2 ^ 20 % 4096 % 32) ∷ []) (then-store-rd (rd w) (continue cs)))
+  word-shift-is cs k φ l =
+      let e : w / 2 ^ 20 % 4096 % 32 ≡ inst 24 20 w = omega arith in
+      rw e
+      (imm-agrees r₀ 4 pc v κ z cs k (rd w) (rs1 w) (inst 24 20 w) φ (λ u a b. l u (rw b (omega arith))) (omega arith) (omega arith) (omega arith))
+
+  slliw-by : (b : Bool) → eqb (funct7 w) 0 ≡ b → Agrees 4 pc v (lookup D.shifts32 (funct7 w * 8 + 1) (D.shiftw w) Instr.Uncovered)
+      (behind (load 9 (rs1 w) ∷ []) (then-store-rd (rd w) (E.op-imm-32-arm (J.imm-i w) (w / 2 ^ 20 % 4096) (funct7 w) 1)))
+  unfolding D.shifts32 E.op-imm-32-arm store-rd
+  slliw-by true p = rw (eqb-true (funct7 w) 0 p) (unfold slliw in (word-shift-is slliw Alu.Sllw slliw-fine slliw-law))
+  slliw-by false p =
+      let n : funct7 w ≡ 0 → ⊥ = eqb-false (funct7 w) 0 p in
+      let k = funct7 w * 8 + 1 in
+      rw (p, ne-eqb k 1 (λ e. n (omega arith)), ne-eqb k 5 (λ e. omega arith), ne-eqb k 261 (λ e. omega arith)) only-load
+
+  srliw-by : (b c : Bool) → eqb (funct7 w) 0 ≡ b → eqb (funct7 w) 32 ≡ c
+      → Agrees 4 pc v (lookup D.shifts32 (funct7 w * 8 + 5) (D.shiftw w) Instr.Uncovered)
+      (behind (load 9 (rs1 w) ∷ []) (then-store-rd (rd w) (E.op-imm-32-arm (J.imm-i w) (w / 2 ^ 20 % 4096) (funct7 w) 5)))
+  unfolding D.shifts32 E.op-imm-32-arm store-rd
+  srliw-by true c p q = rw (eqb-true (funct7 w) 0 p) (unfold srliw in (word-shift-is srliw Alu.Srlw srliw-fine srliw-law))
+  srliw-by false true p q = rw (eqb-true (funct7 w) 32 q) (unfold sraiw in (word-shift-is sraiw Alu.Sraw sraiw-fine sraiw-law))
+  srliw-by false false p q =
+      let n : funct7 w ≡ 0 → ⊥ = eqb-false (funct7 w) 0 p in
+      let m : funct7 w ≡ 32 → ⊥ = eqb-false (funct7 w) 32 q in
+      let k = funct7 w * 8 + 5 in
+      rw (p, q, ne-eqb k 1 (λ e. omega arith), ne-eqb k 5 (λ e. n (omega arith)), ne-eqb k 261 (λ e. m (omega arith)))
+      (uncovered-agrees r₀ 4 pc v κ z (load 9 (rs1 w) ∷ mov-imm64 10 (w / 2 ^ 20 % 4096 % 32) ∷ [])
+      (with-constant (rs1 w) (w / 2 ^ 20 % 4096 % 32) (omega arith) (omega arith)))
+
+  -- no shift has another funct3
+  no-shift : (t : ℕ) → t < 8 → (t ≡ 1 → ⊥) → (t ≡ 5 → ⊥) → lookup D.shifts32 (funct7 w * 8 + t) (D.shiftw w) Instr.Uncovered ≡ Instr.Uncovered
+  unfolding D.shifts32
+  no-shift t h n m =
+      let k = funct7 w * 8 + t in
+      rw (ne-eqb k 1 (λ e. n (omega arith)), ne-eqb k 5 (λ e. m (omega arith)), ne-eqb k 261 (λ e. m (omega arith)))
+
+  op-imm-32-by : (t : ℕ) → t < 8 → Agrees 4 pc v (lookup D.imms32 t (D.imm w) (lookup D.shifts32 (funct7 w * 8 + t) (D.shiftw w) Instr.Uncovered))
+      (behind (load 9 (rs1 w) ∷ []) (then-store-rd (rd w) (E.op-imm-32-arm (J.imm-i w) (w / 2 ^ 20 % 4096) (funct7 w) t)))
+  unfolding D.imms32 E.op-imm-32-arm store-rd
+  op-imm-32-by =
+      digit
+      (λ t. Agrees 4 pc v (lookup D.imms32 t (D.imm w) (lookup D.shifts32 (funct7 w * 8 + t) (D.shiftw w) Instr.Uncovered))
+      (behind (load 9 (rs1 w) ∷ []) (then-store-rd (rd w) (E.op-imm-32-arm (J.imm-i w) (w / 2 ^ 20 % 4096) (funct7 w) t))))
+      (unfold body in (imm-is Alu.Addw))
+      (slliw-by (eqb (funct7 w) 0) refl)
+      (rw (no-shift 2 (omega arith) (omega arith) (omega arith)) only-load)
+      (rw (no-shift 3 (omega arith) (omega arith) (omega arith)) only-load)
+      (rw (no-shift 4 (omega arith) (omega arith) (omega arith)) only-load)
+      (srliw-by (eqb (funct7 w) 0) (eqb (funct7 w) 32) refl refl)
+      (rw (no-shift 6 (omega arith) (omega arith) (omega arith)) only-load)
+      (rw (no-shift 7 (omega arith) (omega arith) (omega arith)) only-load)
+
+  branch-on-is : (k : Cond) → Agrees 4 pc v (D.on w k) (E.branch-on pc w (J.decode32 w) (condition k))
+  unfolding E.branch-on
+  branch-on-is k = rw (imm-b-is w hw) (branch-agrees r₀ 4 pc v κ z k (rs1 w) (rs2 w) (immB w) (omega arith) (omega arith))
+
+  no-words : Agrees 4 pc v Instr.Uncovered (none [])
+  no-words = uncovered-agrees r₀ 4 pc v κ z [] nothing
+
+  branch-by : (t : ℕ) → t < 8 → Agrees 4 pc v (lookup D.branches t (D.on w) Instr.Uncovered) (E.branch pc w (J.decode32 w) t)
+  unfolding D.branches E.branch E.branch-on condition
+  branch-by =
+      digit (λ t. Agrees 4 pc v (lookup D.branches t (D.on w) Instr.Uncovered) (E.branch pc w (J.decode32 w) t))
+      (branch-on-is Cond.Eq) (branch-on-is Cond.Ne) no-words no-words (branch-on-is Cond.Lt) (branch-on-is Cond.Ge) (branch-on-is Cond.Ltu) (branch-on-is Cond.Geu)
+
+  misc-mem-by : (t : ℕ) → t < 8 → funct3 w ≡ t → Agrees 4 pc v (D.below w 2 Instr.Nop) (E.misc-mem (J.decode32 w))
+  unfolding D.below E.misc-mem
+  misc-mem-by =
+      digit (λ t. funct3 w ≡ t → Agrees 4 pc v (D.below w 2 Instr.Nop) (E.misc-mem (J.decode32 w)))
+      (λ e. rw e (nop-agrees r₀ 4 pc v κ z)) (λ e. rw e (nop-agrees r₀ 4 pc v κ z)) (λ e. rw e no-words) (λ e. rw e no-words)
+      (λ e. rw e no-words) (λ e. rw e no-words) (λ e. rw e no-words) (λ e. rw e no-words)
+
+  -- helpers and what is never inline
+  either : (b : Bool) → Agrees 4 pc v (cond b Instr.Helper Instr.Uncovered) (none [])
+  either true = helper-agrees r₀ 4 pc v κ z
+  either false = no-words
+
+  others : (c : Class) → Type 0
+  others c = Agrees 4 pc v (D.byClass c w) (none [])
+
+  any : (b : Bool) (x y : Class) → others x → others y → others (cond b x y)
+  any true x y p q = p
+  any false x y p q = q
+
+  by-opcode : (n : ℕ) → Opcode n → w % 128 ≡ n → Agrees 4 pc v (D.byClass (classOf (w % 128)) w) (E.emit-native-instr pc w (J.decode32 w))
+  unfolding D.byClass classOf D.op D.op32 D.opImm D.shiftImm D.opImm32 D.shiftImm32 D.branch E.emit-native-instr E.lui E.auipc E.jal E.jalr E.branch E.branch-on E.op-imm E.op-imm-32 E.op-32 E.op E.misc-mem others D.below
+  by-opcode _ lui e = rw (e, imm-u-is w hw) (lui-agrees r₀ 4 pc v κ z (rd w) (immU w) (omega arith) (omega arith))
+  by-opcode _ auipc e = rw (e, imm-u-is w hw) (auipc-agrees r₀ 4 pc v κ z (rd w) (immU w) (omega arith))
+  by-opcode _ jal e = rw (e, imm-j-is w hw) (jal-agrees r₀ 4 pc v κ z (rd w) (immJ w) (omega arith))
+  by-opcode _ jalr e = rw (e, imm-i-is w hw) (jalr-agrees r₀ 4 pc v κ z (rd w) (rs1 w) (immI w) (omega arith) (omega arith) (omega arith))
+  by-opcode _ branch e = rw e (branch-by (funct3 w) f3-lt)
+  by-opcode _ op-imm e = rw e (op-imm-by (funct3 w) f3-lt)
+  by-opcode _ op-imm-32 e = rw e (op-imm-32-by (funct3 w) f3-lt)
+  by-opcode _ op-32 e = rw e (op-32-by (op-32-arm-is (funct3 w) f3-lt (funct7 w) _ _ _ refl refl refl))
+  by-opcode _ op e = rw e (op-by (op-arm-is (funct3 w) f3-lt (funct7 w) _ _ _ refl refl refl))
+  by-opcode _ misc-mem e = rw e (misc-mem-by (funct3 w) f3-lt refl)
+  by-opcode n (other _ q) e =
+      rw (e, q .0, q .1, q .2, q .3, q .4, q .5, q .6, q .7, q .8, q .9)
+      (any (eqb n 0b0000011) Class.Load _ (either (ltb (funct3 w) 7))
+      (any (eqb n 0b0000111) Class.LoadFp _ (either true)
+      (any (eqb n 0b0100011) Class.Store _ (either (ltb (funct3 w) 4))
+      (any (eqb n 0b0100111) Class.StoreFp _ (either true)
+      (any (eqb n 0b0101111) Class.Amo _ (either true)
+      (any (eqb n 0b1110011) Class.System Class.Other no-words no-words))))))
+
+  pub agrees32 : Agrees 4 pc v (D.decode32 w) (E.emit-native-instr pc w (J.decode32 w))
+  unfolding D.decode32
+  agrees32 = by-opcode (w % 128) (opcode-of (w % 128)) refl

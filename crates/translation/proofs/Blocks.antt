@@ -1,0 +1,261 @@
+-- The walk over the guest code does on the host what the ISA's run does. Assumes nothing.
+use mathlib.Core.Path.{_≡_, refl, sym, ap, _∙_}
+use mathlib.Core.Bool.{Bool, true, false, cond, not, true≢false}
+use mathlib.Core.Option.{Option, none, some}
+use mathlib.Core.Logic.{_⊎_, inl, inr}
+use mathlib.Core.List.{List, [], _∷_, _++_, append-assoc, append-nil}
+use Prim.Native.Nat.{ℕ, zero, suc, _+_, _-_, _*_, _/_, _%_, _^_, _≤_, _<_}
+use native.Mathlib.Omega.{arith}
+use lib.Dec.{eqb, leb, ltb, T}
+use lib.ListN.{length, getD, set, drop, length-drop}
+use lib.Seq.{drop-drop}
+use borrow.Author.Tests.{eqb-true, eqb-false, ne-eqb, eq-eqb, leb-true, leb-false, lt-ltb, le-ltb}
+use Rattle.word.specs.Word.{wrap, add}
+use Rattle.le.specs.Le.{load}
+use Rattle.le.specs.Laws.{Bytes, load-lt, load-add}
+use Rattle.isa.specs.declared.decode.Decoded32.{Decoded32}
+use Rattle.rv64.specs.declared.decode.Instr.{Instr}
+use Rattle.rv64.specs.declared.execute.Flow.{Flow}
+use Rattle.rv64.specs.declared.run.Hart.{Hart}
+use Rattle.rv64.specs.declared.run.Fetched as RF
+use Rattle.rv64.specs.declared.run.Stop as RS
+use Rattle.rv64.specs.declared.run.Ran.{Ran}
+use Rattle.rv64.specs.Execute.{read, write, exec}
+use Rattle.rv64.specs.Decode as RD
+use Rattle.rv64.specs.Compressed as RC
+use Rattle.rv64.specs.Run as R
+use Rattle.jit_arm64.specs.declared.EmitFlow.{EmitFlow}
+use Rattle.jit_arm64.specs.declared.Host as JH
+use Rattle.jit_arm64.specs.declared.block.Fetched.{Fetched}
+use Rattle.jit_arm64.specs.declared.block.Outcome.{Outcome}
+use Rattle.jit_arm64.specs.declared.block.Stop.{Stop}
+use Rattle.jit_arm64.specs.Calls.{Call, emit, mov-imm64, Emission}
+use Rattle.jit_arm64.specs.Calls as JC
+use Rattle.jit_arm64.specs.Isa.{OPCODE-SYSTEM, OPCODE-LOAD, OPCODE-STORE, OPCODE-LOAD-FP, OPCODE-STORE-FP, OPCODE-AMO}
+use Rattle.jit_arm64.specs.Decode as JD
+use Rattle.jit_arm64.specs.Instr16 as E16
+use Rattle.jit_arm64.specs.Instr32 as E32
+use Rattle.jit_arm64.specs.TermHelper as TH
+use Rattle.jit_arm64.specs.Block.{Turn, Walk, walked, in-front, none-outcome, after, instr16-turn, instr-turn, turn, step, walk, fetch, fetch-upper}
+use Rattle.jit_arm64.specs.Translate.{by-helper}
+use Rattle.translation.proofs.Calls.{Host, form-step, call-step, calls-run, scratch, fits, keeps, all-fit, all-keep, AllIn, Kept, calls-kept, is-true}
+use Rattle.translation.proofs.Instrs.{run-append, keep-append, fit-append, in-append, Fine, Does, Continues, Terminates, Leaves, Matches, Agrees, nothing}
+use Rattle.translation.proofs.Agree32.{agrees32}
+use Rattle.translation.proofs.Agree16.{agrees16}
+
+-- ---- what an instruction keeps
+
+write-zero : (x : List ℕ) (d w : ℕ) → getD (write x d w) 0 0 ≡ getD x 0 0
+unfolding write
+write-zero x zero w = refl
+write-zero [] (suc d) w = rw (ne-eqb (suc d) 0 (omega arith))
+write-zero (y ∷ x) (suc d) w = rw (ne-eqb (suc d) 0 (omega arith))
+
+exec-zero : (i : Instr) (n pc : ℕ) (x : List ℕ) → getD (exec i n pc x .x) 0 0 ≡ getD x 0 0
+unfolding exec
+exec-zero (Instr.Op k d a b) n pc x = write-zero x d _
+exec-zero (Instr.OpImm k d a c) n pc x = write-zero x d _
+exec-zero (Instr.Lui d c) n pc x = write-zero x d _
+exec-zero (Instr.Auipc d c) n pc x = write-zero x d _
+exec-zero (Instr.Jal d c) n pc x = write-zero x d _
+exec-zero (Instr.Jalr d a c) n pc x = write-zero x d _
+exec-zero (Instr.Branch k a b c) n pc x = refl
+exec-zero Instr.Nop n pc x = refl
+exec-zero Instr.Helper n pc x = refl
+exec-zero Instr.Uncovered n pc x = refl
+
+-- one that the run does not do leaves the registers
+abbrev Stays : Flow → List ℕ → List ℕ → Type 0
+Stays (Flow.Next to) y x = Unit {0}
+Stays (Flow.Ended to) y x = Unit {0}
+Stays Flow.Helper y x = y ≡ x
+Stays Flow.Uncovered y x = y ≡ x
+
+exec-stays : (i : Instr) (n pc : ℕ) (x : List ℕ) → Stays (exec i n pc x .flow) (exec i n pc x .x) x
+unfolding exec
+exec-stays (Instr.Op k d a b) n pc x = tt
+exec-stays (Instr.OpImm k d a c) n pc x = tt
+exec-stays (Instr.Lui d c) n pc x = tt
+exec-stays (Instr.Auipc d c) n pc x = tt
+exec-stays (Instr.Jal d c) n pc x = tt
+exec-stays (Instr.Jalr d a c) n pc x = tt
+exec-stays (Instr.Branch k a b c) n pc x = tt
+exec-stays Instr.Nop n pc x = tt
+exec-stays Instr.Helper n pc x = refl
+exec-stays Instr.Uncovered n pc x = refl
+
+-- ---- walks
+
+-- the next PC into X0, unless the last instruction set it
+unfoldable pub next-calls : Stop → ℕ → List Call
+next-calls Stop.Ended pc = []
+next-calls Stop.Helper pc = []
+next-calls Stop.Limit pc = mov-imm64 0 pc ∷ []
+next-calls Stop.Uncovered pc = mov-imm64 0 pc ∷ []
+next-calls Stop.NotFetched pc = mov-imm64 0 pc ∷ []
+
+abbrev pub walk-calls : Walk → List Call
+walk-calls w = w .calls ++ next-calls (w .stop) (w .pc)
+
+-- the walk, from the host v, ends as the guest's run r
+pub record Walks (w : Walk) (v : Host) (r : Ran) : Type 0 where
+  pub fit : T (all-fit true (walk-calls w))
+  pub range : AllIn (walk-calls w)
+  pub slots : calls-run (walk-calls w) v .slots ≡ r .hart .x
+  pub next : calls-run (walk-calls w) v .r 0 ≡ r .hart .pc
+  pub count : w .count ≡ r .count
+
+-- behind calls that leave the slots alone
+stop-walks : (cs : List Call) (n pc : ℕ) (why : Stop) (rwhy : RS.Stop) (v : Host) → next-calls why pc ≡ mov-imm64 0 pc ∷ [] → Fine cs → pc < 2 ^ 64
+    → Walks (walked cs n why pc) v (R.stopped (R.hart (v .slots) pc) n rwhy)
+stop-walks cs n pc why rwhy v e φ h =
+    let to = mov-imm64 0 pc ∷ [] in
+    record {
+      fit = rw e (fit-append true cs to (φ .fit) (rw (φ .stay) (unfold all-fit fits scratch in tt)));
+      range = rw e (in-append cs to (φ .range) (h, tt));
+      slots = rw e (ap (λ (u : Host). u .slots) (run-append cs to v) ∙ unfold calls-run call-step in (φ .slots v));
+      next = rw e (ap (λ (u : Host). u .r 0) (run-append cs to v) ∙ unfold calls-run call-step in refl);
+      count = refl;
+    }
+
+-- ---- the helper's emitter takes the instruction, or makes no call
+
+abbrev Quiet : Emission → Type 0
+Quiet h = (h .flow ≡ EmitFlow.Terminate) ⊎ (h ≡ JC.none [])
+
+load-quiet : (h : JH.Host) (pc w n : ℕ) (d : Decoded32) (o : Option ℕ) → Quiet (TH.with-load h pc w d n o)
+load-quiet h pc w n d none = inr refl
+load-quiet h pc w n d (some k) = inl refl
+
+store-quiet : (h : JH.Host) (pc w n : ℕ) (d : Decoded32) (o : Option ℕ) → Quiet (TH.with-store h pc w d n o)
+store-quiet h pc w n d none = inr refl
+store-quiet h pc w n d (some k) = inl refl
+
+quiet-by : (a b c d e f : Bool) (l s k : Emission) → Quiet l → Quiet s → Quiet k
+    → Quiet (cond a (JC.none []) (cond b l (cond c s (cond d k (cond e k (cond f k (JC.none [])))))))
+quiet-by true b c d e f l s k p q r = inr refl
+quiet-by false true c d e f l s k p q r = p
+quiet-by false false true d e f l s k p q r = q
+quiet-by false false false true e f l s k p q r = r
+quiet-by false false false false true f l s k p q r = r
+quiet-by false false false false false true l s k p q r = r
+quiet-by false false false false false false l s k p q r = inr refl
+
+quiet32 : (h : JH.Host) (pc w n : ℕ) (d : Decoded32) → Quiet (TH.emit-native-term-helper32 h pc w d n)
+unfolding TH.emit-native-term-helper32 TH.opcode-helper TH.load-helper TH.store-helper
+quiet32 h pc w n d =
+    let o = d .opcode in
+    quiet-by (eqb o OPCODE-SYSTEM) (eqb o OPCODE-LOAD) (eqb o OPCODE-STORE) (eqb o OPCODE-LOAD-FP) (eqb o OPCODE-STORE-FP) (eqb o OPCODE-AMO)
+    (TH.with-load h pc w d n (TH.load-op (d .funct3))) (TH.with-store h pc w d n (TH.store-op (d .funct3))) (JC.terminate (TH.call-exec (h .exec32) pc w n))
+    (load-quiet h pc w n d (TH.load-op (d .funct3))) (store-quiet h pc w n d (TH.store-op (d .funct3))) (inl refl)
+
+quiet16 : (h : JH.Host) (pc w n : ℕ) → Quiet (TH.emit-native-term-helper16 h pc w n)
+unfolding TH.emit-native-term-helper16
+quiet16 h pc w n = by (TH.supports (JD.c-op w) (JD.c-funct3 w))
+  where
+    by : (b : Bool) → Quiet (cond b (JC.terminate (TH.call-exec (h .exec16) pc w n)) (JC.none []))
+    by true = inl refl
+    by false = inr refl
+
+-- ---- the loop
+
+-- calls in front of a walk
+front-calls : (cs : List Call) (w : Walk) → walk-calls (in-front cs w) ≡ cs ++ walk-calls w
+front-calls cs w = append-assoc cs (w .calls) (next-calls (w .stop) (w .pc))
+
+module _ (r₀ : ℕ → ℕ) (start : ℕ) where
+  -- the walk and the guest's run from index i on, unless a helper ends it
+  abbrev Follows : ℕ → Walk → (Hart → Ran) → Type 0
+  Follows i w run =
+      (u : Host) → Kept r₀ true u → getD (u .slots) 0 0 ≡ 0 → by-helper (w .stop) ≡ 0 → Walks w u (run (R.hart (u .slots) (add start i)))
+
+  helped-walks : (e h : Emission) (size i n : ℕ) (why : RS.Stop) (v : Host) (rest : ℕ → ℕ → Walk) → Quiet h → Fine (e .calls)
+      → by-helper (step (after EmitFlow.None e h size .outcome) (after EmitFlow.None e h size) start n i rest .stop) ≡ 0
+      → Walks (step (after EmitFlow.None e h size .outcome) (after EmitFlow.None e h size) start n i rest) v (R.stopped (R.hart (v .slots) (add start i)) n why)
+  unfolding after none-outcome step by-helper next-calls
+  helped-walks e h size i n why v rest (inl p) φ free = absurd (omega (arith, rw p at free))
+  helped-walks e h size i n why v rest (inr p) φ free =
+      rw (p, append-nil (e .calls)) (stop-walks (e .calls) n (add start i) Stop.Uncovered why v refl φ (omega arith))
+
+  turn-walks : (f : Flow) (x : List ℕ) (e h : Emission) (size i n : ℕ) (v : Host) (rest : ℕ → ℕ → Walk) (run : Hart → Ran)
+      → Quiet h → Matches size (add start i) v x f e → Stays f x (v .slots) → getD x 0 0 ≡ 0 → Kept r₀ true v
+      → Follows (i + size) (rest (suc n) (i + size)) run
+      → by-helper (step (after (e .flow) e h size .outcome) (after (e .flow) e h size) start n i rest .stop) ≡ 0
+      → Walks (step (after (e .flow) e h size .outcome) (after (e .flow) e h size) start n i rest) v (R.onward f x (add start i) n run)
+  unfolding after step R.onward next-calls
+  turn-walks (Flow.Next to) x e h size i n v rest run hq m st z κ go free =
+      let cs = e .calls in
+      let stay : all-keep true cs ≡ true = is-true (all-keep true cs) (m .stay) in
+      let κ′ : Kept r₀ true (calls-run cs v) = rw stay at (calls-kept r₀ cs true v (m .does .fit) (m .does .range) κ) in
+      let w = rest (suc n) (i + size) in
+      let free′ : by-helper (w .stop) ≡ 0 = rw (m .flow) at free in
+      let y = go (calls-run cs v) κ′ (rw (m .does .slots) z) free′ in
+      let q = front-calls cs w in
+      let p : to ≡ add start (i + size) = m .next ∙ omega arith in
+      rw (m .flow, p, ← (m .does .slots))
+      (record {
+        fit = rw q (fit-append true cs _ (m .does .fit) (rw stay (y .fit)));
+        range = rw q (in-append cs _ (m .does .range) (y .range));
+        slots = rw q (ap (λ (u : Host). u .slots) (run-append cs _ v) ∙ y .slots);
+        next = rw q (ap (λ (u : Host). u .r 0) (run-append cs _ v) ∙ y .next);
+        count = y .count;
+      })
+  turn-walks (Flow.Ended to) x e h size i n v rest run hq m st z κ go free =
+      let q = append-nil (e .calls) in
+      rw (m .flow)
+      (record { fit = rw q (m .does .fit); range = rw q (m .does .range); slots = rw q (m .does .slots); next = rw q (m .next); count = omega arith })
+  turn-walks Flow.Helper x e h size i n v rest run hq m st z κ go free =
+      rw (m .flow, st) (helped-walks e h size i n RS.Stop.Helper v rest hq (m .fine) (rw (m .flow) at free))
+  turn-walks Flow.Uncovered x e h size i n v rest run hq m st z κ go free =
+      rw (m .flow, st) (helped-walks e h size i n RS.Stop.Uncovered v rest hq (m .fine) (rw (m .flow) at free))
+
+  module _ (host : JH.Host) where
+    step-walks : (a b c : Bool) (w u : ℕ) (i n : ℕ) (v : Host) (rest : ℕ → ℕ → Walk) (run : ℕ → Hart → Ran)
+        → w < 2 ^ 16 → u < 2 ^ 32 → Kept r₀ true v → getD (v .slots) 0 0 ≡ 0 → ((size : ℕ) → size % 2 ≡ 0 → Follows (i + size) (rest (suc n) (i + size)) (run size))
+        → (t : Turn) → turn host (add start i) n (cond a (cond b (cond c (Fetched.Word u) Fetched.Missing) (Fetched.Half w)) Fetched.Missing) ≡ t
+        → by-helper (step (t .outcome) t start n i rest .stop) ≡ 0
+        → Walks (step (t .outcome) t start n i rest) v
+        (R.step (cond (not a) RF.Fetched.Missing (cond (not b) (RF.Fetched.Found (RC.decode16 (host .ebreak) w) 2) (cond (not c) RF.Fetched.Missing (RF.Fetched.Found (RD.decode32 u) 4)))) (R.hart (v .slots) (add start i)) n run)
+    unfolding turn instr16-turn instr-turn step R.step next-calls
+    step-walks false b c w u i n v rest run hw hu κ z go t q free = rw (← q) (stop-walks [] n (add start i) Stop.NotFetched RS.Stop.NotFetched v refl nothing (omega arith))
+    step-walks true false c w u i n v rest run hw hu κ z go t q free =
+        let j = RC.decode16 (host .ebreak) w in
+        rw (← q)
+        (turn-walks _ _ (E16.emit-native-instr16 (host .ebreak) (add start i) w) _ 2 i n v rest (run 2) (quiet16 host (add start i) w n) (agrees16 r₀ (add start i) v κ z w hw (host .ebreak))
+        (exec-stays j 2 (add start i) (v .slots)) (exec-zero j 2 (add start i) (v .slots) ∙ z) κ (go 2 refl) (rw (← q) at free))
+    step-walks true true false w u i n v rest run hw hu κ z go t q free = rw (← q) (stop-walks [] n (add start i) Stop.NotFetched RS.Stop.NotFetched v refl nothing (omega arith))
+    step-walks true true true w u i n v rest run hw hu κ z go t q free =
+        let j = RD.decode32 u in
+        rw (← q)
+        (turn-walks _ _ (E32.emit-native-instr (add start i) u (JD.decode32 u)) _ 4 i n v rest (run 4) (quiet32 host (add start i) u n (JD.decode32 u)) (agrees32 r₀ (add start i) v κ z u hu)
+        (exec-stays j 4 (add start i) (v .slots)) (exec-zero j 4 (add start i) (v .slots) ∙ z) κ (go 4 refl) (rw (← q) at free))
+
+    short : (i k l : ℕ) → 0 < k → ltb (l - i) k ≡ not (leb (i + k) l)
+    short i k l h = by (leb (i + k) l) refl
+      where
+        by : (c : Bool) → leb (i + k) l ≡ c → ltb (l - i) k ≡ not c
+        by true q = le-ltb (l - i) k (omega (arith, leb-true (i + k) l q))
+        by false q = lt-ltb (l - i) k (omega (arith, leb-false (i + k) l q))
+
+    word-at : (m : List ℕ) (i : ℕ) → load 2 m (i + 2) * 2 ^ 16 + load 2 m i ≡ load 4 m i
+    word-at m i = omega (arith, load-add 2 2 m i)
+
+    from-drop : (k : ℕ) (m : List ℕ) (i : ℕ) → load k (drop i m) 0 ≡ load k m i
+    unfolding load
+    from-drop k m i = refl
+
+    -- the whole walk
+    pub walk-walks : (guest : List ℕ) → Bytes guest → start < 2 ^ 64 → (k n i : ℕ) (v : Host) → add start i % 2 ≡ 0 → Kept r₀ true v → getD (v .slots) 0 0 ≡ 0
+        → by-helper (walk host guest start k n i .stop) ≡ 0
+        → Walks (walk host guest start k n i) v (R.run (host .ebreak) k n (drop i guest) (R.hart (v .slots) (add start i)))
+    unfolding walk R.run fetch fetch-upper R.fetch next-calls
+    walk-walks guest hb hs zero n i v he κ z free = stop-walks [] n (add start i) Stop.Limit RS.Stop.Limit v refl nothing (omega arith)
+    walk-walks guest hb hs (suc k) n i v he κ z free =
+        let p : n + 1 ≡ suc n = omega arith in
+        let l : length (drop i guest) ≡ length guest - i = length-drop i guest in
+        let o : eqb (add start i % 2) 0 ≡ true = eq-eqb (add start i % 2) 0 he in
+        rw (o, word-at guest i, from-drop 2 guest i, from-drop 4 guest i, l, short i 2 (length guest) (omega arith), short i 4 (length guest) (omega arith))
+        (step-walks (leb (i + 2) (length guest)) (eqb (load 2 guest i % 4) 3) (leb (i + 4) (length guest)) (load 2 guest i) (load 4 guest i) i n v
+        (walk host guest start k) (λ size. R.run (host .ebreak) k (n + 1) (drop size (drop i guest))) (load-lt 2 guest i hb) (load-lt 4 guest i hb) κ z
+        (λ size e u κ′ z′ f. rw (p, drop-drop size i guest) (walk-walks guest hb hs k (suc n) (i + size) u (omega (arith, he, e)) κ′ z′ f)) _ refl
+        (rw (o, word-at guest i) at free))

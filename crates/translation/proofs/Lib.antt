@@ -1,0 +1,11 @@
+pub mod Registers
+pub mod Calls
+pub mod Remainders
+pub mod Alus
+pub mod Instrs
+pub mod Agree32
+pub mod Agree16
+pub mod Blocks
+pub mod Helpers
+pub mod Whole
+pub mod Translated

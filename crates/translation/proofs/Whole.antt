@@ -1,0 +1,269 @@
+-- Demand 3 for the block of a walk. Assumes nothing.
+use mathlib.Core.Path.{_≡_, refl, sym, ap, _∙_, subst}
+use mathlib.Core.Bool.{Bool, true, false, cond, not, true≢false}
+use mathlib.Core.Logic.{_⊎_, inl, inr}
+use mathlib.Core.List.{List, [], _∷_, _++_, append-assoc, map, map-append, flatten}
+use Prim.Native.Nat.{ℕ, zero, suc, _+_, _-_, _*_, _/_, _%_, _^_, _≤_, _<_, min}
+use native.Mathlib.Nat.{not-suc-le-zero, le-of-suc-le-suc}
+use native.Mathlib.Omega.{arith}
+use lib.Dec.{eqb, leb, ltb, T}
+use lib.ListN.{length, getD, set, drop, length-append, length-map}
+use borrow.Author.Tests.{eqb-true, eqb-false, ne-eqb, leb-true, leb-false, le-leb, lt-leb, ltb-true, ltb-false}
+use Rattle.word.specs.Word.{wrap, add}
+use Rattle.le.specs.Le.{load, number}
+use Rattle.le.specs.Laws.{Bytes, load-lt}
+use Rattle.a64.specs.declared.Form.{Form}
+use Rattle.a64.specs.declared.Form.the-variants.{Ret}
+use Rattle.a64.specs.Forms.{encode, decode}
+use Rattle.a64.specs.Emitter.{encoded, bytes}
+use Rattle.a64.proofs.Coding.{decode-encode, encode-lt}
+use Rattle.a64.proofs.Emission.{length-encoded}
+use Rattle.a64_run.specs.declared.run.End.{End}
+use Rattle.a64_run.specs.Exec.{State, reg, machine, exec}
+use Rattle.a64_run.specs.Run as A
+use Rattle.a64_run.proofs.Straight.{Straight, straight-run}
+use Rattle.a64_run.proofs.Slots.{Apart, Slots}
+use Rattle.rv64.specs.Run as R
+use Rattle.jit_arm64.specs.declared.Host as JH
+use Rattle.jit_arm64.specs.declared.block.Stop.{Stop}
+use Rattle.jit_arm64.specs.Calls.{Call, emit, mov-imm64, ret, forms, groups, reg-off, Emission}
+use Rattle.jit_arm64.specs.Calls as JC
+use Rattle.jit_arm64.specs.declared.block.Outcome.{Outcome}
+use Rattle.jit_arm64.specs.Block.{Turn, Walk, fetch, turn, step, walk, end-calls, block-calls, whole-walk, max-steps}
+use Rattle.jit_arm64.specs.Translate.{by-helper, block-bytes}
+use Rattle.translation.specs.Demand3.{slot, place, Entry, Outside, Ends, Demand3}
+use Rattle.translation.proofs.Registers.{tab, tab-getD, getD-tab}
+use Rattle.translation.proofs.Calls.{Host, host, call-step, calls-run, scratch, fits, keeps, all-fit, all-keep, AllIn, Kept, calls-kept, real, Goes, calls-go}
+use Rattle.translation.proofs.Instrs.{run-append, keep-append, fit-append, in-append}
+use Rattle.translation.proofs.Blocks.{next-calls, walk-calls, Walks, walk-walks}
+
+-- ---- words and bytes
+
+-- every word has 32 bits
+abbrev pub Words : List ℕ → Type 0
+Words [] = Unit {0}
+Words (w ∷ ws) = (w < 2 ^ 32) × Words ws
+
+pub words-bytes : (ws : List ℕ) → Words ws → A.words (bytes ws) ≡ ws
+unfolding A.words number
+words-bytes [] h = refl
+words-bytes (w ∷ ws) h =
+    let a : w / 2 ^ 16 ≡ w / 2 ^ 8 / 2 ^ 8 = omega arith in
+    let b : w / 2 ^ 24 ≡ w / 2 ^ 16 / 2 ^ 8 = omega arith in
+    let c : w / 2 ^ 24 < 256 = omega arith in
+    let e : number (w % 256 ∷ w / 2 ^ 8 % 256 ∷ w / 2 ^ 16 % 256 ∷ w / 2 ^ 24 % 256 ∷ []) ≡ w = by (w / 2 ^ 8) (w / 2 ^ 16) (w / 2 ^ 24) (omega arith) a b c in
+    rw (e, words-bytes ws (h .1))
+  where
+    by : (p q r : ℕ) → p ≡ w / 256 → q ≡ p / 256 → r ≡ q / 256 → r < 256 → w % 256 + 256 * (p % 256 + 256 * (q % 256 + 256 * (r % 256 + 256 * 0))) ≡ w
+    by p q r e f g l = omega arith
+
+straight-words : (fs : List Form) (s t : State) (ws : List ℕ) → Straight fs s t → Words ws → Words (encoded fs ++ ws)
+straight-words [] s t ws g h = h
+straight-words (f ∷ fs) s t ws g h = (encode-lt f (g .2), straight-words fs (g .0) t ws (g .3) h)
+
+-- ---- the end of a block
+
+ending-is : (why : Stop) (pc n : ℕ) → by-helper why ≡ 0 → end-calls why pc n ≡ next-calls why pc ++ (mov-imm64 1 n ∷ emit ret ∷ [])
+unfolding end-calls by-helper next-calls
+ending-is Stop.Helper pc n t = absurd (omega (arith, t))
+ending-is Stop.Ended pc n t = refl
+ending-is Stop.Limit pc n t = refl
+ending-is Stop.Uncovered pc n t = refl
+ending-is Stop.NotFetched pc n t = refl
+
+forms-append : (o : ℕ) (cs ds : List Call) → flatten (groups o (cs ++ ds)) ≡ flatten (groups o cs) ++ flatten (groups o ds)
+unfolding flatten
+forms-append o [] ds = refl
+forms-append o (c ∷ cs) ds =
+    ap (λ (l : List Form). forms o c ++ l) (forms-append o cs ds) ∙ sym (append-assoc (forms o c) (flatten (groups o cs)) (flatten (groups o ds)))
+
+-- the count goes into X1, then the return
+abbrev counted : Walk → List Call
+counted w = walk-calls w ++ (mov-imm64 1 (w .count) ∷ [])
+
+block-words : (o : ℕ) (w : Walk) → by-helper (w .stop) ≡ 0 → JC.words o (block-calls w) ≡ encoded (flatten (groups o (counted w))) ++ (encode Ret ∷ [])
+unfolding JC.words flatten
+block-words o w free =
+    let tail = mov-imm64 1 (w .count) ∷ emit ret ∷ [] in
+    let e : block-calls w ≡ counted w ++ (emit ret ∷ []) =
+    ap (λ (l : List Call). w .calls ++ l) (ending-is (w .stop) (w .pc) (w .count) free)
+    ∙ sym (append-assoc (w .calls) (next-calls (w .stop) (w .pc)) tail)
+    ∙ sym (append-assoc (walk-calls w) (mov-imm64 1 (w .count) ∷ []) (emit ret ∷ []))
+    in
+    ap (λ (cs : List Call). encoded (flatten (groups o cs))) e
+    ∙ ap encoded (forms-append o (counted w) (emit ret ∷ []))
+    ∙ map-append encode (flatten (groups o (counted w))) (Ret ∷ [])
+
+-- ---- the count is at most the limit
+
+step-most : (o : Outcome) (t : Turn) (start n i k : ℕ) (rest : ℕ → ℕ → Walk) → ((j : ℕ) → rest (suc n) j .count ≤ suc n + k) → step o t start n i rest .count ≤ n + suc k
+unfolding step
+step-most Outcome.GoOn t start n i k rest h = omega (arith, h (i + t .size))
+step-most Outcome.End t start n i k rest h = omega arith
+step-most Outcome.Help t start n i k rest h = omega arith
+step-most Outcome.Pass t start n i k rest h = omega arith
+step-most Outcome.Lack t start n i k rest h = omega arith
+
+walk-most : (h : JH.Host) (guest : List ℕ) (start k n i : ℕ) → walk h guest start k n i .count ≤ n + k
+unfolding walk
+walk-most h guest start zero n i = omega arith
+walk-most h guest start (suc k) n i =
+    let t = turn h (add start i) n (fetch (add start i) guest i) in
+    step-most (t .outcome) t start n i k (walk h guest start k) (λ j. walk-most h guest start k (suc n) j)
+
+-- ---- the block, from a state at entry
+
+getD-past : (l : List ℕ) (i : ℕ) → length l ≤ i → getD l i 0 ≡ 0
+getD-past [] i h = refl
+getD-past (y ∷ l) zero h = absurd (not-suc-le-zero h)
+getD-past (y ∷ l) (suc i) h = getD-past l i (le-of-suc-le-suc h)
+
+slots-differ : (r o n k : ℕ) → n < 32 → k < 32 → wrap (r + (o + 8 * n)) ≡ wrap (r + (o + 8 * k)) → n ≡ k
+slots-differ r o n k hn hk e =
+    by ((r + (o + 8 * n)) / 2 ^ 64) ((r + (o + 8 * k)) / 2 ^ 64) (wrap (r + (o + 8 * n))) (omega arith) (omega (arith, e)) _ refl _ refl
+  where
+    by : (i j m : ℕ) → r + (o + 8 * n) ≡ 2 ^ 64 * i + m → r + (o + 8 * k) ≡ 2 ^ 64 * j + m → (c : Bool) → ltb i j ≡ c → (d : Bool) → ltb j i ≡ d → n ≡ k
+    by i j m p q true f d g = omega (arith, ltb-true i j f)
+    by i j m p q false f true g = omega (arith, ltb-true j i g)
+    by i j m p q false f false g =
+        let e : i ≡ j = omega (arith, ltb-false i j f, ltb-false j i g) in
+        omega arith
+
+-- a and b on multiples of 8, a not eight beyond b
+beyond : (a b base : ℕ) → a % 8 ≡ 0 → b % 8 ≡ 0 → (a ≡ b → ⊥) → a < b + 8 → base ≤ a → base ≤ b → a - base + 8 ≤ b - base
+beyond a b base ha hb ne l p q = omega arith
+
+module _ (h : JH.Host) (pc limit : ℕ) (guest : List ℕ) (hb : Bytes guest) (hp : pc < 2 ^ 64) (he : pc % 2 ≡ 0)
+    (ho : h .slots ≤ 32512) (h8 : h .slots % 8 ≡ 0) (free : by-helper (whole-walk h guest pc limit .stop) ≡ 0) where
+  abbrev W : Walk
+  W = whole-walk h guest pc limit
+
+  abbrev fs : List Form
+  fs = flatten (groups (h .slots) (counted W))
+
+  module _ (s : State) (x : List ℕ) (ε : Entry (h .slots) s x) where
+    abbrev p : ℕ → ℕ
+    p n = place s (h .slots) n
+
+    apart : Apart p (length (s .mem))
+    apart =
+        record {
+          inside = λ n hn. omega (arith, ε .inside n hn);
+          apart = λ n k hn hk ne. by n k hn hk ne (leb (slot s (h .slots) k + 8) (slot s (h .slots) n)) refl;
+        }
+      where
+        by : (n k : ℕ) → n < 32 → k < 32 → (n ≡ k → ⊥) → (c : Bool) → leb (slot s (h .slots) k + 8) (slot s (h .slots) n) ≡ c → (p k + 8 ≤ p n) ⊎ (p n + 8 ≤ p k)
+        by n k hn hk ne true q = inl (omega (arith, leb-true (slot s (h .slots) k + 8) (slot s (h .slots) n) q, ε .inside n hn, ε .inside k hk))
+        by n k hn hk ne false q =
+            let d : slot s (h .slots) n ≡ slot s (h .slots) k → ⊥ = λ e. ne (slots-differ (reg s 0) (h .slots) n k hn hk e) in
+            inr (beyond (slot s (h .slots) n) (slot s (h .slots) k) (s .base) (ε .aligned n hn) (ε .aligned k hk) d (leb-false (slot s (h .slots) k + 8) (slot s (h .slots) n) q) (ε .inside n hn .0) (ε .inside k hk .0))
+
+    abbrev r₀ : ℕ → ℕ
+    r₀ k = getD (s .x) k 0
+
+    abbrev v : Host
+    v = host r₀ (s .flags) x
+
+    small : (i : ℕ) (c : Bool) → ltb i 32 ≡ c → getD x i 0 < 2 ^ 64
+    small i true q = rw (ε .starts i (ltb-true i 32 q)) (load-lt 8 (s .mem) (p i) (ε .bytes))
+    small i false q = rw (getD-past x i (omega (arith, ε .guest, ltb-false i 32 q))) (omega arith)
+
+    kept : Kept r₀ true v
+    kept = record { base = λ t. refl; same = λ k q. refl; count = ε .guest; small = λ i. small i (ltb i 32) refl; regs = ε .small }
+
+    does : Walks W v (R.run (h .ebreak) (R.clamped limit) 0 guest (R.hart x pc))
+    unfolding whole-walk
+    does =
+        let e : add pc 0 ≡ pc = omega arith in
+        rw e at (walk-walks r₀ pc h guest hb hp (min limit max-steps) 0 0 v (rw e he) kept (ε .starts 0 (omega arith) ∙ ε .zero) free)
+
+    fit : T (all-fit true (counted W))
+    fit = fit-append true (walk-calls W) (mov-imm64 1 (W .count) ∷ []) (does .fit) (unfold all-fit fits scratch in tt)
+
+    few : W .count < 2 ^ 64
+    unfolding whole-walk
+    few = omega (arith, walk-most h guest pc (min limit max-steps) 0 0)
+
+    range : AllIn (counted W)
+    range = in-append (walk-calls W) (mov-imm64 1 (W .count) ∷ []) (does .range) (few, tt)
+
+    -- the host at the end
+    abbrev u : Host
+    u = calls-run (counted W) v
+
+    last : u ≡ call-step (mov-imm64 1 (W .count)) (calls-run (walk-calls W) v)
+    unfolding calls-run
+    last = run-append (walk-calls W) (mov-imm64 1 (W .count) ∷ []) v
+
+    at : (n : ℕ) → n < 32 → wrap (r₀ 0 + reg-off (h .slots) n / 8 * 8) ≡ s .base + p n
+    at n hn =
+        let e : reg-off (h .slots) n / 8 * 8 ≡ h .slots + 8 * n = omega arith in
+        rw e (omega (arith, ε .inside n hn .0))
+
+    goes : Goes p (s .mem) (s .base) (s .sp) fs v (s .mem) u
+    goes =
+        calls-go p (s .mem) (s .base) (s .sp) (h .slots) r₀ apart ho at (λ n hn. even n hn) (counted W) true v (s .mem) fit range kept
+        (record { size = refl; count = ε .guest; holds = λ n hn. sym (ε .starts n hn); outside = λ j o. refl })
+      where
+        even : (n : ℕ) → n < 32 → (s .base + p n) % 8 ≡ 0
+        even n hn = let e : s .base + p n ≡ slot s (h .slots) n = omega (arith, ε .inside n hn .0) in rw e (ε .aligned n hn)
+
+    entry : real (s .base) (s .sp) v (s .mem) ≡ s
+    entry =
+        let e : tab 31 r₀ ≡ s .x = subst (λ (n : ℕ). tab n r₀ ≡ s .x) (ε .count) (tab-getD (s .x)) in
+        ap (λ (l : List ℕ). machine l (s .sp) (s .flags) (s .base) (s .mem)) e
+
+    -- the state at the end
+    abbrev t : State
+    t = real (s .base) (s .sp) u (goes .0)
+
+    straight : Straight fs s t
+    straight = subst (λ (z : State). Straight fs z t) entry (goes .1)
+
+    returns : (address budget : ℕ) → length fs < budget
+        → A.run (encoded fs ++ (encode Ret ∷ [])) address budget 0 s ≡ A.ran End.Returned (suc (length fs)) t
+    unfolding A.run A.onward exec
+    returns address budget hl =
+        let e : budget ≡ length fs + suc (budget - suc (length fs)) = omega arith in
+        let z : length fs + 0 ≡ length fs = omega arith in
+        rw e (straight-run fs (encode Ret ∷ []) address (suc (budget - suc (length fs))) 0 s t straight ∙ rw (decode-encode Ret tt, z))
+
+    all-words : Words (encoded fs ++ (encode Ret ∷ []))
+    all-words = straight-words fs s t (encode Ret ∷ []) straight (encode-lt Ret tt, tt)
+
+    at-end : Kept r₀ (all-keep true (counted W)) u
+    at-end = calls-kept r₀ (counted W) true v fit range kept
+
+    same : (k : ℕ) → k < 31 → scratch k ≡ false → reg t k ≡ reg s k
+    same k hk q = getD-tab 31 (u .r) k hk ∙ at-end .same k q
+
+    ends : Ends (h .slots) s (suc (length fs)) (W .count) (A.ran End.Returned (suc (length fs)) t) (R.run (h .ebreak) (R.clamped limit) 0 guest (R.hart x pc))
+    ends =
+        record {
+          end = refl;
+          steps = refl;
+          instructions = sym (does .count);
+          x0 = getD-tab 31 (u .r) 0 (omega arith) ∙ ap (λ (z : Host). z .r 0) last ∙ unfold call-step in (does .next);
+          x1 = getD-tab 31 (u .r) 1 (omega arith) ∙ ap (λ (z : Host). z .r 1) last ∙ unfold call-step in refl;
+          slots = λ n hn. goes .2 .holds n hn ∙ ap (λ (z : Host). getD (z .slots) n 0) last ∙ unfold call-step in (ap (λ (l : List ℕ). getD l n 0) (does .slots));
+          size = goes .2 .size;
+          memory = λ j o. goes .2 .outside j o;
+          base = refl;
+          sp = refl;
+          low = λ k a b. same k (omega arith) (unfold scratch in (rw (ne-eqb k 0 (omega arith), ne-eqb k 1 (omega arith), lt-leb 9 k (omega arith))));
+          high = λ k a b. same k (omega arith) (unfold scratch in (rw (ne-eqb k 0 (omega arith), ne-eqb k 1 (omega arith), le-leb 9 k (omega arith), lt-leb k 17 (omega arith))));
+        }
+
+  -- demand 3 for the block of the walk
+  pub demand3 : Demand3 guest pc limit (h .ebreak) (h .slots) (block-bytes h guest pc limit) (W .count)
+  unfolding block-bytes
+  demand3 address budget s x ε hl =
+      let q : JC.words (h .slots) (block-calls W) ≡ encoded fs ++ (encode Ret ∷ []) = block-words (h .slots) W free in
+      let w : A.words (bytes (JC.words (h .slots) (block-calls W))) ≡ encoded fs ++ (encode Ret ∷ []) =
+      ap (λ (l : List ℕ). A.words (bytes l)) q ∙ words-bytes (encoded fs ++ (encode Ret ∷ [])) (all-words s x ε)
+      in
+      let n : length (encoded fs ++ (encode Ret ∷ [])) ≡ suc (length fs) =
+      length-append (encoded fs) (encode Ret ∷ []) ∙ rw (length-encoded fs) (omega arith)
+      in
+      let l : length fs < budget = omega (arith, hl, ap length w, n) in
+      rw (w, n, returns s x ε address budget l) (ends s x ε)
