@@ -8,17 +8,17 @@ use mathlib.Core.Option.{Option, none, some}
 use lib.Dec.{eqb, ltb}
 use borrow.Author.Tests.{le-ltb, eqb-true, ne-eqb}
 use Rattle.word.specs.Word.{add}
-use Rattle.jit_arm64.specs.declared.Host.{Host}
-use Rattle.jit_arm64.specs.declared.EmitFlow.{EmitFlow}
-use Rattle.jit_arm64.specs.declared.EmitFlow.the-variants.{Continue, Terminate, None}
+use Rattle.emit_native.specs.declared.Host.{Host}
+use Rattle.emit_native.specs.declared.EmitFlow.{EmitFlow}
+use Rattle.emit_native.specs.declared.EmitFlow.the-variants.{Continue, Terminate, None}
 use Rattle.jit_arm64.specs.declared.block.Fetched.{Fetched}
 use Rattle.jit_arm64.specs.declared.block.Fetched.the-variants.{Missing, Half, Word}
 use Rattle.jit_arm64.specs.declared.block.Outcome.{Outcome}
 use Rattle.jit_arm64.specs.declared.block.Outcome.the-variants.{GoOn, End, Help, Pass, Lack}
 use Rattle.jit_arm64.specs.Block.{Turn, Walk, fetch, turn, step, walk, whole-walk, compile-native-block, after, none-outcome, instr16-turn, instr-turn}
-use Rattle.jit_arm64.specs.Calls.{Emission}
+use Rattle.emit_native.specs.Calls.{Emission}
 use Rattle.jit_arm64.specs.Translate.{is-missing, is-uncovered}
-use Rattle.jit_arm64.proofs.Size.{by}
+use Rattle.emit_native.proofs.Size.{by}
 
 -- the walk never counts less than it began with
 step-count : (o : Outcome) (t : Turn) (start k i : ℕ) (rest : ℕ → ℕ → Walk) → ((n j : ℕ) → n ≤ (rest n j) .count)

@@ -7,15 +7,15 @@ use lib.ListN.{length, replicate}
 use Rattle.a64.specs.Emitter.{bytes, constant, upper}
 use Rattle.le.specs.Le as L
 use Rattle.word.specs.Word as W
-use Rattle.jit_arm64.specs.declared.Host.{Host}
+use Rattle.emit_native.specs.declared.Host.{Host}
 use Rattle.jit_arm64.specs.declared.Answer.{Answer}
 use Rattle.jit_arm64.specs.Translate as T
 use Rattle.jit_arm64.specs.Block as B
-use Rattle.jit_arm64.specs.Calls as C
-use Rattle.jit_arm64.specs.Decode as D
-use Rattle.jit_arm64.specs.Instr16 as I
-use Rattle.jit_arm64.specs.Instr32 as J
-use Rattle.jit_arm64.specs.TermHelper as H
+use Rattle.emit_native.specs.Calls as C
+use Rattle.emit_native.specs.Decode as D
+use Rattle.emit_native.specs.Instr16 as I
+use Rattle.emit_native.specs.Instr32 as J
+use Rattle.emit_native.specs.TermHelper as H
 
 host : Host
 host = record { slots = 0; memory = 0x10000; exec32 = 0x20000; exec16 = 0x30000; ebreak = false }

@@ -12,23 +12,23 @@ use borrow.Author.Tests.{eqb-true}
 use Rattle.a64.specs.Emitter.{max-words, held, encoded, emitted, emitted-all, halfword, constant, upper, Added}
 use Rattle.a64.proofs.Emission.{constant-length, upper-none, emitted-all-new, emitted-fits, length-encoded, emitted-all-append}
 use Rattle.isa.specs.declared.decode.Decoded32.{Decoded32}
-use Rattle.jit_arm64.specs.declared.EmitFlow.{EmitFlow}
-use Rattle.jit_arm64.specs.declared.EmitFlow.the-variants.{Continue, Terminate, None}
-use Rattle.jit_arm64.specs.declared.Emitted.{Emitted}
-use Rattle.jit_arm64.specs.declared.Host.{Host}
+use Rattle.emit_native.specs.declared.EmitFlow.{EmitFlow}
+use Rattle.emit_native.specs.declared.EmitFlow.the-variants.{Continue, Terminate, None}
+use Rattle.emit_native.specs.declared.Emitted.{Emitted}
+use Rattle.emit_native.specs.declared.Host.{Host}
 use Rattle.jit_arm64.specs.declared.block.Fetched.{Fetched}
 use Rattle.jit_arm64.specs.declared.block.Fetched.the-variants.{Missing, Half, Word}
 use Rattle.jit_arm64.specs.declared.block.Outcome.{Outcome}
 use Rattle.jit_arm64.specs.declared.block.Outcome.the-variants.{GoOn, End, Help, Pass, Lack}
-use Rattle.jit_arm64.specs.Isa.{OPCODE-LOAD, OPCODE-STORE, OPCODE-LOAD-FP, OPCODE-STORE-FP, OPCODE-SYSTEM, OPCODE-AMO, F3-LB, F3-LH, F3-LW, F3-LD, F3-LBU, F3-LHU, F3-LWU, F3-SB, F3-SH, F3-SW, F3-SD}
-use Rattle.jit_arm64.specs.Decode.{decode32, c-op, c-funct3, imm-i, imm-s}
-use Rattle.jit_arm64.specs.Calls.{Call, emit, mov-imm64, load, groups, words, if-not-0, Emission, Emits, none, terminate, add-x, ldr-x, str-x, mov-x, sub-sp-imm, add-sp-imm, blr, ret}
-use Rattle.jit_arm64.specs.Instr16.{emit-native-instr16, quadrant-0, quadrant-2}
-use Rattle.jit_arm64.specs.Instr32.{emit-native-instr}
-use Rattle.jit_arm64.specs.TermHelper.{call-helper, call-exec, load-calls, store-calls, load-helper, store-helper, load-op, store-op, opcode-helper, memory-funct3, supports, emit-native-term-helper16, emit-native-term-helper32}
+use Rattle.emit_native.specs.Isa.{OPCODE-LOAD, OPCODE-STORE, OPCODE-LOAD-FP, OPCODE-STORE-FP, OPCODE-SYSTEM, OPCODE-AMO, F3-LB, F3-LH, F3-LW, F3-LD, F3-LBU, F3-LHU, F3-LWU, F3-SB, F3-SH, F3-SW, F3-SD}
+use Rattle.emit_native.specs.Decode.{decode32, c-op, c-funct3, imm-i, imm-s}
+use Rattle.emit_native.specs.Calls.{Call, emit, mov-imm64, load, groups, words, if-not-0, Emission, Emits, none, terminate, add-x, ldr-x, str-x, mov-x, sub-sp-imm, add-sp-imm, blr, ret}
+use Rattle.emit_native.specs.Instr16.{emit-native-instr16, quadrant-0, quadrant-2}
+use Rattle.emit_native.specs.Instr32.{emit-native-instr}
+use Rattle.emit_native.specs.TermHelper.{call-helper, call-exec, load-calls, store-calls, load-helper, store-helper, load-op, store-op, opcode-helper, memory-funct3, supports, emit-native-term-helper16, emit-native-term-helper32}
 use Rattle.jit_arm64.specs.declared.block.Part.{Part}
 use Rattle.jit_arm64.specs.Block.{Turn, turn, after, none-outcome, instr16-turn, instr-turn, most, turned, PartOf, TurnedOf}
-use Rattle.jit_arm64.proofs.Size.{size, size-append, size-le, if-size, by, Within, instr-size, instr16-size}
+use Rattle.emit_native.proofs.Size.{size, size-append, size-le, if-size, by, Within, instr-size, instr16-size}
 
 -- ---- a helper's call
 

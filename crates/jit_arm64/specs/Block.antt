@@ -8,9 +8,9 @@ use lib.ListN.{length, take}
 use lib.Dec.{eqb, leb, ltb}
 use Rattle.word.specs.Word.{add}
 use Rattle.le.specs.Le.{load}
-use Rattle.jit_arm64.specs.declared.Host.{Host}
-use Rattle.jit_arm64.specs.declared.EmitFlow.{EmitFlow}
-use Rattle.jit_arm64.specs.declared.EmitFlow.the-variants.{Continue, Terminate, None}
+use Rattle.emit_native.specs.declared.Host.{Host}
+use Rattle.emit_native.specs.declared.EmitFlow.{EmitFlow}
+use Rattle.emit_native.specs.declared.EmitFlow.the-variants.{Continue, Terminate, None}
 use Rattle.jit_arm64.specs.declared.block.Fetched.{Fetched}
 use Rattle.jit_arm64.specs.declared.block.Fetched.the-variants.{Missing, Half, Word}
 use Rattle.jit_arm64.specs.declared.block.Outcome.{Outcome}
@@ -22,11 +22,11 @@ use Rattle.jit_arm64.specs.declared.block.Part.{Part}
 use Rattle.jit_arm64.specs.declared.block.Turned.{Turned}
 use Rattle.jit_arm64.specs.declared.block.Walked.{Walked}
 use Rattle.jit_arm64.specs.declared.block.NativeBlock.{NativeBlock}
-use Rattle.jit_arm64.specs.Calls.{Call, emit, mov-imm64, ret, words, Emission}
-use Rattle.jit_arm64.specs.Decode.{decode32}
-use Rattle.jit_arm64.specs.Instr16.{emit-native-instr16}
-use Rattle.jit_arm64.specs.Instr32.{emit-native-instr}
-use Rattle.jit_arm64.specs.TermHelper.{emit-native-term-helper16, emit-native-term-helper32}
+use Rattle.emit_native.specs.Calls.{Call, emit, mov-imm64, ret, words, Emission}
+use Rattle.emit_native.specs.Decode.{decode32}
+use Rattle.emit_native.specs.Instr16.{emit-native-instr16}
+use Rattle.emit_native.specs.Instr32.{emit-native-instr}
+use Rattle.emit_native.specs.TermHelper.{emit-native-term-helper16, emit-native-term-helper32}
 
 -- `max_steps.min(64)`
 abbrev pub max-steps : ℕ

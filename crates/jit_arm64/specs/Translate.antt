@@ -5,7 +5,7 @@ use mathlib.Core.List.{List, [], _∷_, _++_}
 use lib.ListN.{length, drop}
 use lib.Dec.{eqb, leb, ltb}
 use Rattle.a64.specs.Emitter.{bytes}
-use Rattle.jit_arm64.specs.declared.Host.{Host}
+use Rattle.emit_native.specs.declared.Host.{Host}
 use Rattle.jit_arm64.specs.declared.Answer.{Answer}
 use Rattle.jit_arm64.specs.declared.block.Fetched.{Fetched}
 use Rattle.jit_arm64.specs.declared.block.Fetched.the-variants.{Missing, Half, Word}
@@ -13,7 +13,7 @@ use Rattle.jit_arm64.specs.declared.block.Outcome.{Outcome}
 use Rattle.jit_arm64.specs.declared.block.Outcome.the-variants.{GoOn, End, Help, Pass, Lack}
 use Rattle.jit_arm64.specs.declared.block.Stop.{Stop}
 use Rattle.jit_arm64.specs.declared.block.Stop.the-variants.{Limit, Ended, Helper, Uncovered, NotFetched}
-use Rattle.jit_arm64.specs.Calls.{words}
+use Rattle.emit_native.specs.Calls.{words}
 use Rattle.jit_arm64.specs.Block.{Walk, fetch, turn, block-calls, whole-walk}
 
 -- the greatest slot offset

@@ -4,9 +4,9 @@ ghost use Prim.Native.Nat.{_+_, _*_, _<_, _≤_, min};
 ghost use lib.ListN.{length};
 ghost use Rattle.a64.specs.Emitter.{max-words, held};
 ghost use Rattle.jit_arm64.specs.Block.{max-steps, fetch, fetch-upper, instr16-turn, instr-turn, turn, none-outcome, whole-walk, PartOf, TurnedOf, WalkedOf, BlockOf};
-use crate::EmitFlow;
-use crate::Emitted;
-use crate::Host;
+use emit_native::EmitFlow;
+use emit_native::Emitted;
+use emit_native::Host;
 use a64::A64Emitter;
 use a64::MAX_WORDS;
 
@@ -124,7 +124,7 @@ fn instr16_part(host: Host, pc: u64, emitted: u32, instr: u16) -> Part
     requires { ⌜ host .slots ≤ 32512 ⌝ }
     ensures { λ r. ⌜ PartOf (host .slots) (instr16-turn host pc emitted instr) r ⌝ }
 {
-    let out = crate::instr16::emit_native_instr16(A64Emitter::new(), host, pc, instr);
+    let out = emit_native::instr16::emit_native_instr16(A64Emitter::new(), host, pc, instr);
     let flow = out.flow;
     let em = out.em;
     match flow {
@@ -136,7 +136,7 @@ fn instr16_part(host: Host, pc: u64, emitted: u32, instr: u16) -> Part
             em,
             outcome: Outcome::End,
         },
-        EmitFlow::None => helped(crate::term_helper::emit_native_term_helper16(
+        EmitFlow::None => helped(emit_native::term_helper::emit_native_term_helper16(
             em,
             host,
             pc,
@@ -151,7 +151,7 @@ fn instr_part(host: Host, pc: u64, emitted: u32, instr: u32) -> Part
     ensures { λ r. ⌜ PartOf (host .slots) (instr-turn host pc emitted instr) r ⌝ }
 {
     let d = isa::decode::decode32(instr);
-    let out = crate::instr32::emit_native_instr(A64Emitter::new(), host.slots, pc, instr, d);
+    let out = emit_native::instr32::emit_native_instr(A64Emitter::new(), host.slots, pc, instr, d);
     let flow = out.flow;
     let em = out.em;
     match flow {
@@ -163,7 +163,7 @@ fn instr_part(host: Host, pc: u64, emitted: u32, instr: u32) -> Part
             em,
             outcome: Outcome::End,
         },
-        EmitFlow::None => helped(crate::term_helper::emit_native_term_helper32(
+        EmitFlow::None => helped(emit_native::term_helper::emit_native_term_helper32(
             em,
             host,
             pc,

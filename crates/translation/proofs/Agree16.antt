@@ -18,12 +18,12 @@ use Rattle.rv64.specs.Alu.{value}
 use Rattle.rv64.specs.Execute.{read, write, exec}
 use Rattle.rv64.specs.Decode.{lookup}
 use Rattle.rv64.specs.Compressed as C
-use Rattle.jit_arm64.specs.declared.EmitFlow.{EmitFlow}
-use Rattle.jit_arm64.specs.Isa.{not-1}
-use Rattle.jit_arm64.specs.Calls.{Call, emit, mov-imm64, load, store, and-x, orr-x, if-not-0, Emission, continue, terminate, none, behind, store-rd, then-store-rd}
-use Rattle.jit_arm64.specs.Decode as J
-use Rattle.jit_arm64.specs.Instr16 as E
-use Rattle.jit_arm64.proofs.Decoding.{imm-ci-is, shamt-is, imm-addi4spn-is, imm-addi16sp-is, imm-cj-is, imm-cb-is}
+use Rattle.emit_native.specs.declared.EmitFlow.{EmitFlow}
+use Rattle.emit_native.specs.Isa.{not-1}
+use Rattle.emit_native.specs.Calls.{Call, emit, mov-imm64, load, store, and-x, orr-x, if-not-0, Emission, continue, terminate, none, behind, store-rd, then-store-rd}
+use Rattle.emit_native.specs.Decode as J
+use Rattle.emit_native.specs.Instr16 as E
+use Rattle.emit_native.proofs.Decoding.{imm-ci-is, shamt-is, imm-addi4spn-is, imm-addi16sp-is, imm-cj-is, imm-cb-is}
 use Rattle.translation.proofs.Calls.{Host, form-step, call-step, calls-run, scratch, form-fits, written, fits, keeps, all-fit, all-keep, Kept}
 use Rattle.translation.proofs.Alus.{body, body-law}
 use Rattle.translation.proofs.Instrs.{Agrees, Fine, Does, nothing, two, body-fine, condition, fork, behind-does, with-constant, fork-does, fork-next, even, read-slot, op-agrees, imm-agrees, lui-agrees, jal-agrees, nop-agrees, uncovered-agrees, helper-agrees}

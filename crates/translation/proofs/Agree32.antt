@@ -17,10 +17,10 @@ use Rattle.rv64.specs.declared.decode.Instr.{Instr}
 use Rattle.rv64.specs.Alu.{value}
 use Rattle.rv64.specs.Decode as D
 use Rattle.rv64.specs.Decode.{Table, lookup}
-use Rattle.jit_arm64.specs.Calls.{Call, emit, mov-imm64, load, store, Emission, continue, terminate, none, behind, store-rd, then-store-rd, cmp-x}
-use Rattle.jit_arm64.specs.Decode as J
-use Rattle.jit_arm64.specs.Instr32 as E
-use Rattle.jit_arm64.proofs.Decoding.{imm-i-is, imm-b-is, imm-u-is, imm-j-is}
+use Rattle.emit_native.specs.Calls.{Call, emit, mov-imm64, load, store, Emission, continue, terminate, none, behind, store-rd, then-store-rd, cmp-x}
+use Rattle.emit_native.specs.Decode as J
+use Rattle.emit_native.specs.Instr32 as E
+use Rattle.emit_native.proofs.Decoding.{imm-i-is, imm-b-is, imm-u-is, imm-j-is}
 use Rattle.translation.proofs.Calls.{Host, Kept, calls-run}
 use Rattle.translation.proofs.Alus.{body, slliw, srliw, sraiw, body-law, slliw-law, srliw-law, sraiw-law}
 use Rattle.translation.proofs.Instrs.{Agrees, Fine, nothing, one, two, with-constant, body-fine, slliw-fine, srliw-fine, sraiw-fine, condition, op-agrees, imm-agrees, lui-agrees, auipc-agrees, jal-agrees, jalr-agrees, branch-agrees, nop-agrees, uncovered-agrees, helper-agrees}

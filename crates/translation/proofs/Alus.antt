@@ -16,8 +16,8 @@ use Rattle.a64_run.specs.Exec.{opValue, compared, holds, holds-even, difference
 use Rattle.a64_run.specs.Flags.{difference-sub, z-law, c-law, n-law, lt-law}
 use Rattle.rv64.specs.declared.alu.Alu.{Alu}
 use Rattle.rv64.specs.Alu.{value, quotient, remainder, quotientU, remainderU, overflows}
-use Rattle.jit_arm64.specs.Isa.{C-EQ, C-NE, C-CS, C-CC, C-MI, C-GE, C-LT, u64-MAX, i64-MIN, not-1}
-use Rattle.jit_arm64.specs.Calls.{Call, emit, mov-imm64, load, store, add-x, sub-x, and-x, orr-x, eor-x, lslv-x, lsrv-x, asrv-x, mul-x, smulh-x, umulh-x, udiv-x, sdiv-x, cmp-x, csel-x, sxtw-x}
+use Rattle.emit_native.specs.Isa.{C-EQ, C-NE, C-CS, C-CC, C-MI, C-GE, C-LT, u64-MAX, i64-MIN, not-1}
+use Rattle.emit_native.specs.Calls.{Call, emit, mov-imm64, load, store, add-x, sub-x, and-x, orr-x, eor-x, lslv-x, lsrv-x, asrv-x, mul-x, smulh-x, umulh-x, udiv-x, sdiv-x, cmp-x, csel-x, sxtw-x}
 use Rattle.translation.proofs.Calls.{Host, form-step, call-step, calls-run}
 use Rattle.translation.proofs.Remainders.{rem-law, remu-law, mulhsu-law}
 

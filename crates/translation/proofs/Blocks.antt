@@ -24,18 +24,18 @@ use Rattle.rv64.specs.Execute.{read, write, exec}
 use Rattle.rv64.specs.Decode as RD
 use Rattle.rv64.specs.Compressed as RC
 use Rattle.rv64.specs.Run as R
-use Rattle.jit_arm64.specs.declared.EmitFlow.{EmitFlow}
-use Rattle.jit_arm64.specs.declared.Host as JH
+use Rattle.emit_native.specs.declared.EmitFlow.{EmitFlow}
+use Rattle.emit_native.specs.declared.Host as JH
 use Rattle.jit_arm64.specs.declared.block.Fetched.{Fetched}
 use Rattle.jit_arm64.specs.declared.block.Outcome.{Outcome}
 use Rattle.jit_arm64.specs.declared.block.Stop.{Stop}
-use Rattle.jit_arm64.specs.Calls.{Call, emit, mov-imm64, Emission}
-use Rattle.jit_arm64.specs.Calls as JC
-use Rattle.jit_arm64.specs.Isa.{OPCODE-SYSTEM, OPCODE-LOAD, OPCODE-STORE, OPCODE-LOAD-FP, OPCODE-STORE-FP, OPCODE-AMO}
-use Rattle.jit_arm64.specs.Decode as JD
-use Rattle.jit_arm64.specs.Instr16 as E16
-use Rattle.jit_arm64.specs.Instr32 as E32
-use Rattle.jit_arm64.specs.TermHelper as TH
+use Rattle.emit_native.specs.Calls.{Call, emit, mov-imm64, Emission}
+use Rattle.emit_native.specs.Calls as JC
+use Rattle.emit_native.specs.Isa.{OPCODE-SYSTEM, OPCODE-LOAD, OPCODE-STORE, OPCODE-LOAD-FP, OPCODE-STORE-FP, OPCODE-AMO}
+use Rattle.emit_native.specs.Decode as JD
+use Rattle.emit_native.specs.Instr16 as E16
+use Rattle.emit_native.specs.Instr32 as E32
+use Rattle.emit_native.specs.TermHelper as TH
 use Rattle.jit_arm64.specs.Block.{Turn, Walk, walked, in-front, none-outcome, after, instr16-turn, instr-turn, turn, step, walk, fetch, fetch-upper}
 use Rattle.jit_arm64.specs.Translate.{by-helper}
 use Rattle.translation.proofs.Calls.{Host, form-step, call-step, calls-run, scratch, fits, keeps, all-fit, all-keep, AllIn, Kept, calls-kept, is-true}

@@ -23,7 +23,7 @@ use Rattle.a64_run.specs.declared.state.Flags.{Flags}
 use Rattle.a64_run.specs.Exec.{State, reg, machine, opValue, compared, holds, address, reaches, exec, next}
 use Rattle.a64_run.proofs.Straight.{Straight, straight-append, constant-goes}
 use Rattle.a64_run.proofs.Slots.{Apart, Slots, slot-stored}
-use Rattle.jit_arm64.specs.Calls.{Call, emit, mov-imm64, load, store, reg-off, forms, groups}
+use Rattle.emit_native.specs.Calls.{Call, emit, mov-imm64, load, store, reg-off, forms, groups}
 use Rattle.translation.proofs.Registers.{upd, tab, length-tab, set-tab, operand-tab}
 
 -- ---- the host

@@ -13,10 +13,10 @@ use Rattle.rv64.specs.declared.decode.Instr.{Instr}
 use Rattle.rv64.specs.Decode.{Table, lookup}
 use Rattle.rv64.specs.Decode as D
 use Rattle.rv64.specs.Compressed as C
-use Rattle.jit_arm64.specs.declared.Host as H
-use Rattle.jit_arm64.specs.Decode as J
-use Rattle.jit_arm64.specs.TermHelper as T
-use Rattle.jit_arm64.specs.declared.EmitFlow.{EmitFlow}
+use Rattle.emit_native.specs.declared.Host as H
+use Rattle.emit_native.specs.Decode as J
+use Rattle.emit_native.specs.TermHelper as T
+use Rattle.emit_native.specs.declared.EmitFlow.{EmitFlow}
 use Rattle.translation.proofs.Agree32.{digit}
 
 unfoldable pub helps : Instr → Bool

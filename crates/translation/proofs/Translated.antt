@@ -10,7 +10,7 @@ use lib.ListN.{length, take, drop}
 use borrow.Author.Tests.{eqb-true, eqb-false, ltb-false}
 use Rattle.le.specs.Laws.{Bytes}
 use Rattle.a64.specs.Emitter.{bytes}
-use Rattle.jit_arm64.specs.declared.Host.{Host}
+use Rattle.emit_native.specs.declared.Host.{Host}
 use Rattle.jit_arm64.specs.declared.Answer.{Answer}
 use Rattle.jit_arm64.specs.Block.{fetch, turn, whole-walk}
 use Rattle.jit_arm64.specs.Translate.{bad-slots, is-missing, is-uncovered, block-bytes, refusal, refused, by-helper, accepted, translate, output-after}

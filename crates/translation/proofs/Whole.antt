@@ -24,10 +24,10 @@ use Rattle.a64_run.specs.Run as A
 use Rattle.a64_run.proofs.Straight.{Straight, straight-run}
 use Rattle.a64_run.proofs.Slots.{Apart, Slots}
 use Rattle.rv64.specs.Run as R
-use Rattle.jit_arm64.specs.declared.Host as JH
+use Rattle.emit_native.specs.declared.Host as JH
 use Rattle.jit_arm64.specs.declared.block.Stop.{Stop}
-use Rattle.jit_arm64.specs.Calls.{Call, emit, mov-imm64, ret, forms, groups, reg-off, Emission}
-use Rattle.jit_arm64.specs.Calls as JC
+use Rattle.emit_native.specs.Calls.{Call, emit, mov-imm64, ret, forms, groups, reg-off, Emission}
+use Rattle.emit_native.specs.Calls as JC
 use Rattle.jit_arm64.specs.declared.block.Outcome.{Outcome}
 use Rattle.jit_arm64.specs.Block.{Turn, Walk, fetch, turn, step, walk, end-calls, block-calls, whole-walk, max-steps}
 use Rattle.jit_arm64.specs.Translate.{by-helper, block-bytes}

@@ -1,9 +1,9 @@
 use native.Mathlib.Omega.{arith}
 use Rattle.jit_arm64.proofs.Turns.{appended, lacking, turn-size, after-length}
-use Rattle.jit_arm64.specs.TermHelper.{emit-native-term-helper16, emit-native-term-helper32}
-use Rattle.jit_arm64.specs.Decode.{decode32}
-use Rattle.jit_arm64.specs.Instr32.{emit-native-instr}
-use Rattle.jit_arm64.specs.Instr16.{emit-native-instr16}
+use Rattle.emit_native.specs.TermHelper.{emit-native-term-helper16, emit-native-term-helper32}
+use Rattle.emit_native.specs.Decode.{decode32}
+use Rattle.emit_native.specs.Instr32.{emit-native-instr}
+use Rattle.emit_native.specs.Instr16.{emit-native-instr16}
 use Rattle.jit_arm64.specs.Block.{turn, instr16-turn, instr-turn}
 use Rattle.jit_arm64.specs.declared.block.Fetched.the-variants.{Half, Word}
 use borrow.Author.Needs.{needs}

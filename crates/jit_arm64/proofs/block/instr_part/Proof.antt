@@ -1,11 +1,11 @@
 use native.Mathlib.Omega.{arith}
-use Rattle.jit_arm64.proofs.Dispatch.{in-range}
+use Rattle.emit_native.proofs.Dispatch.{in-range}
 use Rattle.jit_arm64.proofs.Turns.{goes-on, ends, helps, apart16, apart32}
-use Rattle.jit_arm64.proofs.Size.{instr16-size, instr-size}
-use Rattle.jit_arm64.specs.TermHelper.{emit-native-term-helper16, emit-native-term-helper32}
-use Rattle.jit_arm64.specs.Decode.{decode32}
-use Rattle.jit_arm64.specs.Instr32.{emit-native-instr}
-use Rattle.jit_arm64.specs.Instr16.{emit-native-instr16}
+use Rattle.emit_native.proofs.Size.{instr16-size, instr-size}
+use Rattle.emit_native.specs.TermHelper.{emit-native-term-helper16, emit-native-term-helper32}
+use Rattle.emit_native.specs.Decode.{decode32}
+use Rattle.emit_native.specs.Instr32.{emit-native-instr}
+use Rattle.emit_native.specs.Instr16.{emit-native-instr16}
 use Rattle.jit_arm64.specs.Block.{instr16-turn, instr-turn}
 use borrow.Author.Needs.{needs}
 use Rattle.jit_arm64.proofs.block.instr_part.Statement.{statement}

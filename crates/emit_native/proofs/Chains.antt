@@ -1,0 +1,20 @@
+-- Emitters that call one another. Assumes nothing.
+use Prim.Native.Nat.{ℕ}
+use mathlib.Core.Path.{_≡_, _∙_}
+use mathlib.Core.List.{List, _++_, map-append}
+use Rattle.a64.specs.Emitter.{held, emitted-all}
+use Rattle.a64.proofs.Emission.{emitted-all-append}
+use Rattle.emit_native.specs.declared.Emitted.{Emitted}
+use Rattle.emit_native.specs.Calls.{Call, groups, Emission, Emits, behind, store-rd, then-store-rd}
+
+-- calls behind those of a match
+pub then : (slots rd : ℕ) (h : List ℕ) (e : Emission) (out r : Emitted) → Emits slots h e out
+    → (held (r .em) ≡ emitted-all (held (out .em)) (groups slots (store-rd (out .flow) rd))) × (r .flow ≡ out .flow)
+    → Emits slots h (then-store-rd rd e) r
+then slots rd h e out r a b =
+    record { words = rw (b .0, a .words, a .flow, map-append, emitted-all-append); flow = b .1 ∙ a .flow }
+
+-- calls in front of it
+pub first : (slots : ℕ) (h h′ : List ℕ) (cs : List Call) (e : Emission) (r : Emitted) → h′ ≡ emitted-all h (groups slots cs) → Emits slots h′ e r
+    → Emits slots h (behind cs e) r
+first slots h h′ cs e r a b = record { words = b .words ∙ rw (a, map-append, emitted-all-append); flow = b .flow }

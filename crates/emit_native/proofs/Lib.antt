@@ -1,0 +1,4 @@
+pub mod Chains
+pub mod Decoding
+pub mod Dispatch
+pub mod Size

@@ -1,0 +1,19 @@
+use Rattle.emit_native.specs.Instr16.{c-j}
+use Rattle.emit_native.proofs.Decoding.{imm-cj-is}
+use borrow.Author.Needs.{needs}
+use Rattle.emit_native.proofs.instr16.emit_c_j.Statement.{statement}
+use Rattle.emit_native.proofs.instr16.emit_c_j.Tie as tie
+
+returns : tie.Need-returns
+unfolding c-j
+returns c = record { words = rw (c .terminate .ensures .0, c .before .mov-imm64 .ensures, c .before .before .wrapping-add-u64 .ensures, c .before .before .before .imm-cj .ensures, imm-cj-is (c .before .before .before .before .args .instr)); flow = c .terminate .ensures .1 }
+
+pub emit-c-j-spec : {M : Type 1} → statement M
+emit-c-j-spec =
+    tie.close
+    (tie.spec
+    (λ c κs. search needs)
+    (λ c κs. search needs)
+    (λ c κs. search needs)
+    (λ c κs. search needs)
+    returns)

@@ -1,0 +1,26 @@
+use borrow.Author.Tests.{eq-eqb, ne-eqb}
+use Rattle.emit_native.specs.Instr16.{c-jr}
+use borrow.Author.Needs.{needs}
+use Rattle.emit_native.proofs.instr16.emit_c_jr.Statement.{statement}
+use Rattle.emit_native.proofs.instr16.emit_c_jr.Tie as tie
+
+returns : tie.Need-returns
+unfolding c-jr
+returns c = rw (eq-eqb _ _ (c .before .if1 .taken)) (record { words = rw (c .none .ensures .0); flow = c .none .ensures .1 })
+
+returns-2 : tie.Need-returns-2
+unfolding c-jr
+returns-2 c = rw (ne-eqb _ _ (c .before .before .before .before .before .if1 .left)) (record { words = rw (c .terminate .ensures .0, c .before .emit .ensures, c .before .before .and-x .ensures, c .before .before .before .mov-imm64 .ensures, c .before .before .before .before .load .ensures); flow = c .terminate .ensures .1 })
+
+pub emit-c-jr-spec : {M : Type 1} → statement M
+emit-c-jr-spec =
+    tie.close
+    (tie.spec
+    (λ c κs. search needs)
+    returns
+    (λ c κs. search needs)
+    (λ c κs. search needs)
+    (λ c κs. search needs)
+    (λ c κs. search needs)
+    (λ c κs. search needs)
+    returns-2)

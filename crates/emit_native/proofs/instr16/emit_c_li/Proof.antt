@@ -1,0 +1,15 @@
+use Rattle.emit_native.specs.Instr16.{c-li}
+use Rattle.emit_native.proofs.Decoding.{imm-ci-is}
+use borrow.Author.Needs.{needs}
+use Rattle.emit_native.proofs.instr16.emit_c_li.Statement.{statement}
+use Rattle.emit_native.proofs.instr16.emit_c_li.Tie as tie
+
+returns : tie.Need-returns
+unfolding c-li
+returns c = record { words = rw (c .go-on .ensures .0, c .before .mov-reg .ensures, c .before .before .imm-ci .ensures, c .before .before .before .rd-of .ensures .0, imm-ci-is (c .before .before .before .before .args .instr)); flow = c .go-on .ensures .1 }
+
+pub emit-c-li-spec : {M : Type 1} → statement M
+emit-c-li-spec =
+    tie.close (tie.spec (λ c κs. search needs) (λ c κs. search needs) (λ c κs. search needs) (λ c κs. search needs) returns)
+
+-- x

@@ -1,0 +1,36 @@
+use borrow.Author.Tests.{ne-eqb}
+use Rattle.emit_native.specs.Instr16.{emit-native-instr16}
+use borrow.Author.Needs.{needs}
+use Rattle.emit_native.proofs.instr16.emit_native_instr16.Statement.{statement}
+use Rattle.emit_native.proofs.instr16.emit_native_instr16.Tie as tie
+
+returns : tie.Need-returns
+unfolding emit-native-instr16
+returns c = rw (c .before .match .keys1) (c .emit-quadrant-0 .ensures)
+
+returns-2 : tie.Need-returns-2
+unfolding emit-native-instr16
+returns-2 c = rw (c .before .match .keys2) (c .emit-quadrant-1 .ensures)
+
+returns-3 : tie.Need-returns-3
+unfolding emit-native-instr16
+returns-3 c = rw (c .before .match .keys3) (c .emit-quadrant-2 .ensures)
+
+returns-4 : tie.Need-returns-4
+unfolding emit-native-instr16
+returns-4 c = rw (ne-eqb _ _ (c .before .match .rest .0 .0 .1), ne-eqb _ _ (c .before .match .rest .0 .1), ne-eqb _ _ (c .before .match .rest .1)) (record { words = rw (c .none .ensures .0); flow = c .none .ensures .1 })
+
+pub emit-native-instr16-spec : {M : Type 1} → statement M
+emit-native-instr16-spec =
+    tie.close
+    (tie.spec
+    (λ c κs. search needs)
+    (λ c κs. search needs)
+    (λ c κs. search needs)
+    (λ c κs. search needs)
+    returns
+    returns-2
+    returns-3
+    returns-4)
+
+-- x

@@ -1,0 +1,28 @@
+use borrow.Author.Tests.{ne-eqb}
+use Rattle.emit_native.specs.Instr16.{quadrant-2}
+use borrow.Author.Needs.{needs}
+use Rattle.emit_native.proofs.instr16.emit_quadrant_2.Statement.{statement}
+use Rattle.emit_native.proofs.instr16.emit_quadrant_2.Tie as tie
+
+returns : tie.Need-returns
+unfolding quadrant-2
+returns c = rw (c .before .match .keys1) (c .emit-c-slli .ensures)
+
+returns-2 : tie.Need-returns-2
+unfolding quadrant-2
+returns-2 c = rw (c .before .match .keys2) (c .emit-c-jump-move-add .ensures)
+
+returns-3 : tie.Need-returns-3
+unfolding quadrant-2
+returns-3 c = rw (ne-eqb _ _ (c .before .match .rest .0 .1), ne-eqb _ _ (c .before .match .rest .1)) (record { words = rw (c .none .ensures .0); flow = c .none .ensures .1 })
+
+pub emit-quadrant-2-spec : {M : Type 1} → statement M
+emit-quadrant-2-spec =
+    tie.close
+    (tie.spec
+    (λ c κs. search needs)
+    (λ c κs. search needs)
+    (λ c κs. search needs)
+    returns
+    returns-2
+    returns-3)

@@ -1,0 +1,14 @@
+use Rattle.emit_native.specs.Instr32.{auipc}
+use Rattle.emit_native.proofs.Decoding.{imm-u-is}
+use borrow.Author.Needs.{needs}
+use Rattle.emit_native.proofs.instr32.emit_auipc.Statement.{statement}
+use Rattle.emit_native.proofs.instr32.emit_auipc.Tie as tie
+
+returns : tie.Need-returns
+unfolding auipc
+returns c = record { words = rw (c .go-on .ensures .0, c .before .mov-reg .ensures, c .before .before .wrapping-add-u64 .ensures, c .before .before .before .imm-u .ensures, imm-u-is (c .before .before .before .before .args .instr) (c .before .before .before .before .fits .instr .fits)); flow = c .go-on .ensures .1 }
+
+pub emit-auipc-spec : {M : Type 1} → statement M
+emit-auipc-spec =
+    tie.close
+    (tie.spec (λ c κs. search needs) (λ c κs. search needs) (λ c κs. search needs) (λ c κs. search needs) returns)

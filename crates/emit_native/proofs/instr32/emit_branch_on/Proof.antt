@@ -1,0 +1,26 @@
+use Rattle.emit_native.specs.Instr32.{branch-on}
+use Rattle.emit_native.proofs.Decoding.{imm-b-is}
+use borrow.Author.Needs.{needs}
+use Rattle.emit_native.proofs.instr32.emit_branch_on.Statement.{statement}
+use Rattle.emit_native.proofs.instr32.emit_branch_on.Tie as tie
+
+returns : tie.Need-returns
+unfolding branch-on
+returns c = record { words = rw (c .terminate .ensures .0, c .before .emit2 .ensures, c .before .before .csel-x .ensures, c .before .before .before .mov-imm642 .ensures, c .before .before .before .before .wrapping-add-u642 .ensures, c .before .before .before .before .before .mov-imm64 .ensures, c .before .before .before .before .before .before .wrapping-add-u64 .ensures, c .before .before .before .before .before .before .before .imm-b .ensures, c .before .before .before .before .before .before .before .before .emit .ensures, c .before .before .before .before .before .before .before .before .before .cmp-x .ensures, c .before .before .before .before .before .before .before .before .before .before .load-both .ensures, imm-b-is (c .before .before .before .before .before .before .before .before .before .before .before .args .instr) (c .before .before .before .before .before .before .before .before .before .before .before .fits .instr .fits)); flow = c .terminate .ensures .1 }
+
+pub emit-branch-on-spec : {M : Type 1} → statement M
+emit-branch-on-spec =
+    tie.close
+    (tie.spec
+    (λ c κs. search needs)
+    (λ c κs. search needs)
+    (λ c κs. search needs)
+    (λ c κs. search needs)
+    (λ c κs. search needs)
+    (λ c κs. search needs)
+    (λ c κs. search needs)
+    (λ c κs. search needs)
+    (λ c κs. search needs)
+    (λ c κs. search needs)
+    (λ c κs. search needs)
+    returns)

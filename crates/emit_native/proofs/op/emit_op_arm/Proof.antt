@@ -1,0 +1,34 @@
+use borrow.Author.Tests.{ne-eqb}
+use Rattle.emit_native.specs.Instr32.{op-arm, op}
+use borrow.Author.Needs.{needs}
+use Rattle.emit_native.proofs.op.emit_op_arm.Statement.{statement}
+use Rattle.emit_native.proofs.op.emit_op_arm.Tie as tie
+
+returns : tie.Need-returns
+unfolding op-arm
+returns c = λ slots. rw (c .before .match .keys1) (c .emit-op-base .ensures slots)
+
+returns-2 : tie.Need-returns-2
+unfolding op-arm
+returns-2 c = λ slots. rw (c .before .match .keys2) (c .emit-op-sub-sra .ensures slots)
+
+returns-3 : tie.Need-returns-3
+unfolding op-arm
+returns-3 c = λ slots. rw (c .before .match .keys3) (c .emit-op-muldiv .ensures slots)
+
+returns-4 : tie.Need-returns-4
+unfolding op-arm
+returns-4 c = λ slots. rw (ne-eqb _ _ (c .before .match .rest .0 .0 .1), ne-eqb _ _ (c .before .match .rest .0 .1), ne-eqb _ _ (c .before .match .rest .1)) (record { words = rw (c .none .ensures .0); flow = c .none .ensures .1 })
+
+pub emit-op-arm-spec : {M : Type 1} → statement M
+emit-op-arm-spec =
+    tie.close
+    (tie.spec
+    (λ c κs. search needs)
+    (λ c κs. search needs)
+    (λ c κs. search needs)
+    (λ c κs. search needs)
+    returns
+    returns-2
+    returns-3
+    returns-4)

@@ -1,0 +1,17 @@
+use borrow.Author.Needs.{needs}
+use Rattle.emit_native.proofs.op_32.emit_zero_extended.Statement.{statement}
+use Rattle.emit_native.proofs.op_32.emit_zero_extended.Tie as tie
+
+returns : tie.Need-returns
+returns c = rw (c .emit2 .ensures, c .before .and-x2 .ensures, c .before .before .emit .ensures, c .before .before .before .and-x .ensures, c .before .before .before .before .mov-imm64 .ensures)
+
+pub emit-zero-extended-spec : {M : Type 1} → statement M
+emit-zero-extended-spec =
+    tie.close
+    (tie.spec
+    (λ c κs. search needs)
+    (λ c κs. search needs)
+    (λ c κs. search needs)
+    (λ c κs. search needs)
+    (λ c κs. search needs)
+    returns)

@@ -1,0 +1,34 @@
+use borrow.Author.Tests.{ne-eqb}
+use Rattle.emit_native.specs.Instr32.{op-imm-arm}
+use borrow.Author.Needs.{needs}
+use Rattle.emit_native.proofs.op_imm.emit_op_imm_right.Statement.{statement}
+use Rattle.emit_native.proofs.op_imm.emit_op_imm_right.Tie as tie
+
+returns : tie.Need-returns
+unfolding op-imm-arm
+returns c = λ slots. rw (c .before .before .before .match .keys1) (record { words = rw (c .go-on .ensures .0, c .before .emit .ensures, c .before .before .lsrv-x .ensures, c .before .before .before .before .mov-imm64 .ensures); flow = c .go-on .ensures .1 })
+
+returns-2 : tie.Need-returns-2
+unfolding op-imm-arm
+returns-2 c = λ slots. rw (c .before .before .before .match .keys2) (record { words = rw (c .go-on2 .ensures .0, c .before .emit2 .ensures, c .before .before .asrv-x .ensures, c .before .before .before .before .mov-imm64 .ensures); flow = c .go-on2 .ensures .1 })
+
+returns-3 : tie.Need-returns-3
+unfolding op-imm-arm
+returns-3 c = λ slots. rw (ne-eqb _ _ (c .before .match .rest .0 .1), ne-eqb _ _ (c .before .match .rest .1)) (record { words = rw (c .none .ensures .0, c .before .before .mov-imm64 .ensures); flow = c .none .ensures .1 })
+
+pub emit-op-imm-right-spec : {M : Type 1} → statement M
+emit-op-imm-right-spec =
+    tie.close
+    (tie.spec
+    (λ c. search needs)
+    (λ c κs. search needs)
+    (λ c κs. search needs)
+    (λ c κs. search needs)
+    (λ c κs. search needs)
+    (λ c κs. search needs)
+    (λ c κs. search needs)
+    (λ c κs. search needs)
+    (λ c κs. search needs)
+    returns
+    returns-2
+    returns-3)

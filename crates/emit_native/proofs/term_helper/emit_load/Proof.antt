@@ -1,0 +1,28 @@
+use Rattle.emit_native.proofs.Decoding.{imm-i-is}
+use borrow.Author.Needs.{needs}
+use Rattle.emit_native.proofs.term_helper.emit_load.Statement.{statement}
+use Rattle.emit_native.proofs.term_helper.emit_load.Tie as tie
+
+returns : tie.Need-returns
+returns c = record { words = rw (c .terminate .ensures .0, c .before .emit-call .ensures (c .before .before .before .before .before .before .before .before .before .before .before .before .before .before .before .args .host .slots), c .before .before .mov-imm645 .ensures, c .before .before .before .emit2 .ensures, c .before .before .before .before .mov-x .ensures, c .before .before .before .before .before .mov-imm644 .ensures, c .before .before .before .before .before .before .mov-imm643 .ensures, c .before .before .before .before .before .before .before .before .mov-imm642 .ensures, c .before .before .before .before .before .before .before .before .before .emit-pointers .ensures, c .before .before .before .before .before .before .before .before .before .before .emit .ensures, c .before .before .before .before .before .before .before .before .before .before .before .add-x .ensures, c .before .before .before .before .before .before .before .before .before .before .before .before .mov-imm64 .ensures, c .before .before .before .before .before .before .before .before .before .before .before .before .before .imm-i .ensures, c .before .before .before .before .before .before .before .before .before .before .before .before .before .before .load .ensures, imm-i-is (c .before .before .before .before .before .before .before .before .before .before .before .before .before .before .before .args .instr) (c .before .before .before .before .before .before .before .before .before .before .before .before .before .before .before .fits .instr .fits)); flow = c .terminate .ensures .1 }
+
+pub emit-load-spec : {M : Type 1} → statement M
+emit-load-spec =
+    tie.close
+    (tie.spec
+    (λ c κs. search needs)
+    (λ c κs. search needs)
+    (λ c κs. search needs)
+    (λ c κs. search needs)
+    (λ c κs. search needs)
+    (λ c κs. search needs)
+    (λ c κs. search needs)
+    (λ c. search needs)
+    (λ c κs. search needs)
+    (λ c κs. search needs)
+    (λ c κs. search needs)
+    (λ c κs. search needs)
+    (λ c κs. search needs)
+    (λ c κs. search needs)
+    (λ c κs. search needs)
+    returns)

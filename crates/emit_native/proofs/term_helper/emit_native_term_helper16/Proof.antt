@@ -1,0 +1,22 @@
+use Rattle.emit_native.specs.TermHelper.{emit-native-term-helper16}
+use borrow.Author.Needs.{needs}
+use Rattle.emit_native.proofs.term_helper.emit_native_term_helper16.Statement.{statement}
+use Rattle.emit_native.proofs.term_helper.emit_native_term_helper16.Tie as tie
+
+returns : tie.Need-returns
+unfolding emit-native-term-helper16
+returns c = (rw (← c .before .before .supports .ensures, c .before .if1 .taken) (c .emit-exec .ensures _))
+
+returns-2 : tie.Need-returns-2
+unfolding emit-native-term-helper16
+returns-2 c = (rw (← c .before .before .supports .ensures, c .before .if1 .left) (record { words = rw (c .none .ensures .0); flow = c .none .ensures .1 }))
+
+pub emit-native-term-helper16-spec : {M : Type 1} → statement M
+emit-native-term-helper16-spec =
+    tie.close
+    (tie.spec
+    (λ c κs. search needs)
+    (λ c κs. search needs)
+    returns
+    (λ c κs. search needs)
+    returns-2)

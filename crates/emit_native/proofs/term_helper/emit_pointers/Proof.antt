@@ -1,0 +1,18 @@
+use borrow.Author.Needs.{needs}
+use Rattle.emit_native.proofs.term_helper.emit_pointers.Statement.{statement}
+use Rattle.emit_native.proofs.term_helper.emit_pointers.Tie as tie
+
+returns : tie.Need-returns
+returns c = rw (c .emit3 .ensures, c .before .mov-x3 .ensures, c .before .before .emit2 .ensures, c .before .before .before .mov-x2 .ensures, c .before .before .before .before .emit .ensures, c .before .before .before .before .before .mov-x .ensures)
+
+pub emit-pointers-spec : {M : Type 1} → statement M
+emit-pointers-spec =
+    tie.close
+    (tie.spec
+    (λ c κs. search needs)
+    (λ c κs. search needs)
+    (λ c κs. search needs)
+    (λ c κs. search needs)
+    (λ c κs. search needs)
+    (λ c κs. search needs)
+    returns)

@@ -1,0 +1,127 @@
+// Calls that several emitters make.
+ghost use mathlib.Core.Path.{_≡_};
+ghost use mathlib.Core.List.{[], _∷_};
+ghost use Prim.Native.Nat.{_<_, _≤_};
+ghost use Rattle.a64.specs.declared.Form.{Form};
+ghost use Rattle.a64.specs.Forms.{encode};
+ghost use Rattle.a64.specs.Emitter.{held, emitted, emitted-all, encoded};
+ghost use Rattle.emit_native.specs.Calls.{Call, forms, groups, reg-off, if-not-0, store-rd};
+use crate::EmitFlow;
+use crate::Emitted;
+use a64::A64Emitter;
+
+// Rule 9.
+fn reg_off(slots: u16, n: u8) -> u16
+    requires { ⌜ (slots ≤ 32512) × (n < 32) ⌝ }
+    ensures { λ r. ⌜ (r ≡ reg-off slots n) × (r < 32768) ⌝ }
+{
+    slots + 8 * (n as u16)
+}
+
+// Guest register n into Xt.
+pub fn load(em: A64Emitter, slots: u16, rt: u8, n: u8) -> A64Emitter
+    requires { ⌜ (slots ≤ 32512) × (rt < 32) × (n < 32) ⌝ }
+    ensures { λ r. ⌜ held r ≡ emitted (held em) (encoded (forms slots (Call.load rt n))) ⌝ }
+{
+    em.emit(A64Emitter::ldr_x(rt, 0, reg_off(slots, n)))
+}
+
+// Xt into guest register n.
+pub fn store(em: A64Emitter, slots: u16, rt: u8, n: u8) -> A64Emitter
+    requires { ⌜ (slots ≤ 32512) × (rt < 32) × (n < 32) ⌝ }
+    ensures { λ r. ⌜ held r ≡ emitted (held em) (encoded (forms slots (Call.store rt n))) ⌝ }
+{
+    em.emit(A64Emitter::str_x(rt, 0, reg_off(slots, n)))
+}
+
+// Guest registers rs1 and rs2 into X9 and X10.
+pub fn load_both(em: A64Emitter, slots: u16, rs1: u8, rs2: u8) -> A64Emitter
+    requires { ⌜ (slots ≤ 32512) × (rs1 < 32) × (rs2 < 32) ⌝ }
+    ensures { λ r. ⌜ held r ≡ emitted-all (held em) (groups slots (Call.load 9 rs1 ∷ Call.load 10 rs2 ∷ [])) ⌝ }
+{
+    let em = load(em, slots, 9, rs1);
+    load(em, slots, 10, rs2)
+}
+
+// A constant into a guest register that is not 0.
+pub fn mov_reg(em: A64Emitter, slots: u16, rd: u8, val: u64) -> A64Emitter
+    requires { ⌜ (slots ≤ 32512) × (rd < 32) ⌝ }
+    ensures { λ r. ⌜ held r ≡ emitted-all (held em) (groups slots (if-not-0 rd (Call.mov-imm64 11 val ∷ Call.store 11 rd ∷ []))) ⌝ }
+{
+    if rd == 0 {
+        return em;
+    }
+    let em = em.mov_imm64(11, val);
+    store(em, slots, 11, rd)
+}
+
+// Guest register rs and a constant into X9 and X10, the word of a form on them, and X11 into guest register rd.
+pub fn with_imm(em: A64Emitter, slots: u16, rs: u8, imm: u64, w: u32, rd: u8) -> A64Emitter
+    requires { ⌜ (slots ≤ 32512) × (rs < 32) × (rd < 32) ⌝ }
+    ensures { λ r. ⌜ ((f : Form) → w ≡ encode f → held r ≡ emitted-all (held em) (groups slots (Call.load 9 rs ∷ Call.mov-imm64 10 imm ∷ Call.emit f ∷ Call.store 11 rd ∷ []))) ⌝ }
+{
+    let em = load(em, slots, 9, rs);
+    let em = em.mov_imm64(10, imm);
+    let em = em.emit(w);
+    store(em, slots, 11, rd)
+}
+
+// X11 into a guest register that is not 0, behind a match whose arm was found.
+pub fn store_rd(out: Emitted, slots: u16, rd: u8) -> Emitted
+    requires { ⌜ (slots ≤ 32512) × (rd < 32) ⌝ }
+    ensures { λ r. ⌜ (held (r .em) ≡ emitted-all (held (out .em)) (groups slots (store-rd (out .flow) rd))) × (r .flow ≡ out .flow) ⌝ }
+{
+    let flow = out.flow;
+    let em = out.em;
+    match flow {
+        EmitFlow::Continue => {
+            if rd == 0 {
+                return Emitted {
+                    em,
+                    flow: EmitFlow::Continue,
+                };
+            }
+            let em = store(em, slots, 11, rd);
+            Emitted {
+                em,
+                flow: EmitFlow::Continue,
+            }
+        }
+        EmitFlow::Terminate => Emitted {
+            em,
+            flow: EmitFlow::Terminate,
+        },
+        EmitFlow::None => Emitted {
+            em,
+            flow: EmitFlow::None,
+        },
+    }
+}
+
+// `Some(EmitFlow::Continue)`, `Some(EmitFlow::Terminate)` and `None`.
+pub fn go_on(em: A64Emitter) -> Emitted
+    ensures { λ r. ⌜ (r .em ≡ em) × (r .flow ≡ EmitFlow.Continue) ⌝ }
+{
+    Emitted {
+        em,
+        flow: EmitFlow::Continue,
+    }
+}
+
+pub fn terminate(em: A64Emitter) -> Emitted
+    ensures { λ r. ⌜ (r .em ≡ em) × (r .flow ≡ EmitFlow.Terminate) ⌝ }
+{
+    Emitted {
+        em,
+        flow: EmitFlow::Terminate,
+    }
+}
+
+pub fn none(em: A64Emitter) -> Emitted
+    ensures { λ r. ⌜ (r .em ≡ em) × (r .flow ≡ EmitFlow.None) ⌝ }
+{
+    Emitted {
+        em,
+        flow: EmitFlow::None,
+    }
+}

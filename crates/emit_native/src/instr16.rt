@@ -1,0 +1,384 @@
+// `emit_native_instr16`.
+ghost use mathlib.Core.Path.{_≡_};
+ghost use Prim.Native.Nat.{_<_, _≤_, _+_, _/_, _%_};
+ghost use Rattle.a64.specs.Emitter.{held};
+ghost use Rattle.emit_native.specs.Calls.{Emits};
+ghost use Rattle.emit_native.specs.Instr16.{addi4spn, quadrant-0, c-addi, c-addiw, c-li, c-addi16sp, c-lui, c-srli, c-srai, c-andi, c-alu, c-group, c-j, c-branch-on, c-addi16sp-lui, quadrant-1, c-slli, c-jr, c-mv, c-jalr, c-add, c-jump-move-add, quadrant-2, emit-native-instr16};
+use crate::EmitFlow;
+use crate::Emitted;
+use crate::Host;
+use crate::calls::go_on;
+use crate::calls::load;
+use crate::calls::load_both;
+use crate::calls::mov_reg;
+use crate::calls::none;
+use crate::calls::store;
+use crate::calls::terminate;
+use crate::calls::with_imm;
+use a64::A64Emitter;
+
+const C_EQ: u8 = 0x0;
+
+const C_NE: u8 = 0x1;
+
+// !1u64
+const NOT_1: u64 = 0xFFFF_FFFF_FFFF_FFFE;
+
+fn rd_of(instr: u16) -> u8
+    ensures { λ r. ⌜ (r ≡ instr / 128 % 32) × (r < 32) ⌝ }
+{
+    (instr / 128 % 32) as u8
+}
+
+fn rs2_of(instr: u16) -> u8
+    ensures { λ r. ⌜ (r ≡ instr / 4 % 32) × (r < 32) ⌝ }
+{
+    (instr / 4 % 32) as u8
+}
+
+// rd' and rs2'.
+fn low_prime(instr: u16) -> u8
+    ensures { λ r. ⌜ (r ≡ instr / 4 % 8 + 8) × (r < 32) ⌝ }
+{
+    (instr / 4 % 8 + 8) as u8
+}
+
+// rs1'.
+fn high_prime(instr: u16) -> u8
+    ensures { λ r. ⌜ (r ≡ instr / 128 % 8 + 8) × (r < 32) ⌝ }
+{
+    (instr / 128 % 8 + 8) as u8
+}
+
+fn emit_addi4spn(em: A64Emitter, slots: u16, instr: u16) -> Emitted
+    requires { ⌜ slots ≤ 32512 ⌝ }
+    ensures { λ r. ⌜ Emits slots (held em) (addi4spn instr) r ⌝ }
+{
+    let imm = isa::decode::imm_ciw(instr);
+    if imm == 0 {
+        return none(em);
+    }
+    let w = A64Emitter::add_x(11, 9, 10);
+    go_on(with_imm(em, slots, 2, imm, w, low_prime(instr)))
+}
+
+fn emit_quadrant_0(em: A64Emitter, slots: u16, instr: u16) -> Emitted
+    requires { ⌜ slots ≤ 32512 ⌝ }
+    ensures { λ r. ⌜ Emits slots (held em) (quadrant-0 instr) r ⌝ }
+{
+    match instr / 0x2000 % 8 {
+        0b000 => emit_addi4spn(em, slots, instr),
+        _ => none(em),
+    }
+}
+
+// C.ADDI and C.NOP.
+fn emit_c_addi(em: A64Emitter, slots: u16, instr: u16) -> Emitted
+    requires { ⌜ slots ≤ 32512 ⌝ }
+    ensures { λ r. ⌜ Emits slots (held em) (c-addi instr) r ⌝ }
+{
+    let rd = rd_of(instr);
+    if rd == 0 {
+        return go_on(em);
+    }
+    let w = A64Emitter::add_x(11, 9, 10);
+    go_on(with_imm(em, slots, rd, isa::decode::imm_ci(instr), w, rd))
+}
+
+fn emit_c_addiw(em: A64Emitter, slots: u16, instr: u16) -> Emitted
+    requires { ⌜ slots ≤ 32512 ⌝ }
+    ensures { λ r. ⌜ Emits slots (held em) (c-addiw instr) r ⌝ }
+{
+    let rd = rd_of(instr);
+    if rd == 0 {
+        return none(em);
+    }
+    let em = load(em, slots, 9, rd);
+    let em = em.mov_imm64(10, isa::decode::imm_ci(instr));
+    let em = em.emit(A64Emitter::add_x(11, 9, 10));
+    let em = em.emit(A64Emitter::sxtw_x(11, 11));
+    go_on(store(em, slots, 11, rd))
+}
+
+fn emit_c_li(em: A64Emitter, slots: u16, instr: u16) -> Emitted
+    requires { ⌜ slots ≤ 32512 ⌝ }
+    ensures { λ r. ⌜ Emits slots (held em) (c-li instr) r ⌝ }
+{
+    go_on(mov_reg(em, slots, rd_of(instr), isa::decode::imm_ci(instr)))
+}
+
+fn emit_c_addi16sp(em: A64Emitter, slots: u16, instr: u16) -> Emitted
+    requires { ⌜ slots ≤ 32512 ⌝ }
+    ensures { λ r. ⌜ Emits slots (held em) (c-addi16sp instr) r ⌝ }
+{
+    let imm = isa::decode::imm_ci16(instr);
+    if imm == 0 {
+        return none(em);
+    }
+    let w = A64Emitter::add_x(11, 9, 10);
+    go_on(with_imm(em, slots, 2, imm, w, 2))
+}
+
+fn emit_c_lui(em: A64Emitter, slots: u16, instr: u16) -> Emitted
+    requires { ⌜ slots ≤ 32512 ⌝ }
+    ensures { λ r. ⌜ Emits slots (held em) (c-lui instr) r ⌝ }
+{
+    let rd = rd_of(instr);
+    if rd == 0 {
+        return none(em);
+    }
+    let imm = isa::decode::imm_ci(instr);
+    if imm == 0 {
+        return none(em);
+    }
+    let em = em.mov_imm64(11, imm << 12);
+    go_on(store(em, slots, 11, rd))
+}
+
+fn emit_c_srli(em: A64Emitter, slots: u16, instr: u16) -> Emitted
+    requires { ⌜ slots ≤ 32512 ⌝ }
+    ensures { λ r. ⌜ Emits slots (held em) (c-srli instr) r ⌝ }
+{
+    let rs1 = high_prime(instr);
+    let w = A64Emitter::lsrv_x(11, 9, 10);
+    go_on(with_imm(em, slots, rs1, isa::decode::shamt_c(instr), w, rs1))
+}
+
+fn emit_c_srai(em: A64Emitter, slots: u16, instr: u16) -> Emitted
+    requires { ⌜ slots ≤ 32512 ⌝ }
+    ensures { λ r. ⌜ Emits slots (held em) (c-srai instr) r ⌝ }
+{
+    let rs1 = high_prime(instr);
+    let w = A64Emitter::asrv_x(11, 9, 10);
+    go_on(with_imm(em, slots, rs1, isa::decode::shamt_c(instr), w, rs1))
+}
+
+fn emit_c_andi(em: A64Emitter, slots: u16, instr: u16) -> Emitted
+    requires { ⌜ slots ≤ 32512 ⌝ }
+    ensures { λ r. ⌜ Emits slots (held em) (c-andi instr) r ⌝ }
+{
+    let rs1 = high_prime(instr);
+    let w = A64Emitter::and_x(11, 9, 10);
+    go_on(with_imm(em, slots, rs1, isa::decode::imm_ci(instr), w, rs1))
+}
+
+// C.SUB, C.XOR, C.OR, C.AND.
+fn emit_c_alu_base(em: A64Emitter, slots: u16, alu2: u16, rs1: u8) -> Emitted
+    requires { ⌜ (slots ≤ 32512) × (rs1 < 32) ⌝ }
+    ensures { λ r. ⌜ Emits slots (held em) (c-alu 0 alu2 rs1) r ⌝ }
+{
+    match alu2 {
+        0b00 => go_on(store(em.emit(A64Emitter::sub_x(11, 9, 10)), slots, 11, rs1)),
+        0b01 => go_on(store(em.emit(A64Emitter::eor_x(11, 9, 10)), slots, 11, rs1)),
+        0b10 => go_on(store(em.emit(A64Emitter::orr_x(11, 9, 10)), slots, 11, rs1)),
+        0b11 => go_on(store(em.emit(A64Emitter::and_x(11, 9, 10)), slots, 11, rs1)),
+        _ => none(em),
+    }
+}
+
+// C.SUBW and C.ADDW.
+fn emit_c_alu_word(em: A64Emitter, slots: u16, alu2: u16, rs1: u8) -> Emitted
+    requires { ⌜ (slots ≤ 32512) × (rs1 < 32) ⌝ }
+    ensures { λ r. ⌜ Emits slots (held em) (c-alu 1 alu2 rs1) r ⌝ }
+{
+    match alu2 {
+        0b00 => {
+            let em = em.emit(A64Emitter::sub_x(11, 9, 10));
+            let em = em.emit(A64Emitter::sxtw_x(11, 11));
+            go_on(store(em, slots, 11, rs1))
+        }
+        0b01 => {
+            let em = em.emit(A64Emitter::add_x(11, 9, 10));
+            let em = em.emit(A64Emitter::sxtw_x(11, 11));
+            go_on(store(em, slots, 11, rs1))
+        }
+        _ => none(em),
+    }
+}
+
+fn emit_c_alu(em: A64Emitter, slots: u16, subop: u16, alu2: u16, rs1: u8) -> Emitted
+    requires { ⌜ (slots ≤ 32512) × (rs1 < 32) ⌝ }
+    ensures { λ r. ⌜ Emits slots (held em) (c-alu subop alu2 rs1) r ⌝ }
+{
+    match subop {
+        0 => emit_c_alu_base(em, slots, alu2, rs1),
+        1 => emit_c_alu_word(em, slots, alu2, rs1),
+        _ => none(em),
+    }
+}
+
+// The arms of `match funct2`.
+fn emit_c_group(em: A64Emitter, slots: u16, instr: u16) -> Emitted
+    requires { ⌜ slots ≤ 32512 ⌝ }
+    ensures { λ r. ⌜ Emits slots (held em) (c-group instr) r ⌝ }
+{
+    match instr / 1024 % 4 {
+        0b00 => emit_c_srli(em, slots, instr),
+        0b01 => emit_c_srai(em, slots, instr),
+        0b10 => emit_c_andi(em, slots, instr),
+        0b11 => {
+            let rs1 = high_prime(instr);
+            let em = load_both(em, slots, rs1, low_prime(instr));
+            emit_c_alu(em, slots, instr / 4096 % 2, instr / 32 % 4, rs1)
+        }
+        _ => none(em),
+    }
+}
+
+fn emit_c_j(em: A64Emitter, pc: u64, instr: u16, slots: u16) -> Emitted
+    ensures { λ r. ⌜ Emits slots (held em) (c-j pc instr) r ⌝ }
+{
+    let target = std::num::wrapping_add_u64(pc, isa::decode::imm_cj(instr));
+    terminate(em.mov_imm64(0, target))
+}
+
+// C.BEQZ and C.BNEZ, whose condition is given.
+fn emit_c_branch(em: A64Emitter, slots: u16, pc: u64, instr: u16, condition: u8) -> Emitted
+    requires { ⌜ (slots ≤ 32512) × (condition < 16) ⌝ }
+    ensures { λ r. ⌜ Emits slots (held em) (c-branch-on pc instr condition) r ⌝ }
+{
+    let em = load(em, slots, 9, high_prime(instr));
+    let em = em.mov_imm64(10, 0);
+    let em = em.emit(A64Emitter::cmp_x(9, 10));
+    let target = std::num::wrapping_add_u64(pc, isa::decode::imm_cb(instr));
+    let em = em.mov_imm64(12, target);
+    let em = em.mov_imm64(13, std::num::wrapping_add_u64(pc, 2));
+    terminate(em.emit(A64Emitter::csel_x(0, 12, 13, condition)))
+}
+
+fn emit_c_sp_or_lui(em: A64Emitter, slots: u16, instr: u16) -> Emitted
+    requires { ⌜ slots ≤ 32512 ⌝ }
+    ensures { λ r. ⌜ Emits slots (held em) (c-addi16sp-lui instr) r ⌝ }
+{
+    if rd_of(instr) == 2 {
+        return emit_c_addi16sp(em, slots, instr);
+    }
+    emit_c_lui(em, slots, instr)
+}
+
+fn emit_quadrant_1(em: A64Emitter, slots: u16, pc: u64, instr: u16) -> Emitted
+    requires { ⌜ slots ≤ 32512 ⌝ }
+    ensures { λ r. ⌜ Emits slots (held em) (quadrant-1 pc instr) r ⌝ }
+{
+    match instr / 0x2000 % 8 {
+        0b000 => emit_c_addi(em, slots, instr),
+        0b001 => emit_c_addiw(em, slots, instr),
+        0b010 => emit_c_li(em, slots, instr),
+        0b011 => emit_c_sp_or_lui(em, slots, instr),
+        0b100 => emit_c_group(em, slots, instr),
+        0b101 => emit_c_j(em, pc, instr, slots),
+        0b110 => emit_c_branch(em, slots, pc, instr, C_EQ),
+        0b111 => emit_c_branch(em, slots, pc, instr, C_NE),
+        _ => none(em),
+    }
+}
+
+fn emit_c_slli(em: A64Emitter, slots: u16, instr: u16) -> Emitted
+    requires { ⌜ slots ≤ 32512 ⌝ }
+    ensures { λ r. ⌜ Emits slots (held em) (c-slli instr) r ⌝ }
+{
+    let rd = rd_of(instr);
+    if rd == 0 {
+        return none(em);
+    }
+    let w = A64Emitter::lslv_x(11, 9, 10);
+    go_on(with_imm(em, slots, rd, isa::decode::shamt_c(instr), w, rd))
+}
+
+fn emit_c_jr(em: A64Emitter, slots: u16, rd: u8) -> Emitted
+    requires { ⌜ (slots ≤ 32512) × (rd < 32) ⌝ }
+    ensures { λ r. ⌜ Emits slots (held em) (c-jr rd) r ⌝ }
+{
+    if rd == 0 {
+        return none(em);
+    }
+    let em = load(em, slots, 9, rd);
+    let em = em.mov_imm64(10, NOT_1);
+    terminate(em.emit(A64Emitter::and_x(0, 9, 10)))
+}
+
+fn emit_c_mv(em: A64Emitter, slots: u16, rd: u8, rs2: u8) -> Emitted
+    requires { ⌜ (slots ≤ 32512) × (rd < 32) × (rs2 < 32) ⌝ }
+    ensures { λ r. ⌜ Emits slots (held em) (c-mv rd rs2) r ⌝ }
+{
+    if rd == 0 {
+        return none(em);
+    }
+    let em = load(em, slots, 11, rs2);
+    go_on(store(em, slots, 11, rd))
+}
+
+fn emit_c_jalr(em: A64Emitter, slots: u16, pc: u64, rd: u8) -> Emitted
+    requires { ⌜ (slots ≤ 32512) × (rd < 32) ⌝ }
+    ensures { λ r. ⌜ Emits slots (held em) (c-jalr pc rd) r ⌝ }
+{
+    let em = load(em, slots, 9, rd);
+    let em = em.mov_imm64(10, NOT_1);
+    let em = em.emit(A64Emitter::and_x(11, 9, 10));
+    let em = em.mov_imm64(12, std::num::wrapping_add_u64(pc, 2));
+    let em = store(em, slots, 12, 1);
+    terminate(em.emit(A64Emitter::orr_x(0, 11, 31)))
+}
+
+fn emit_c_add(em: A64Emitter, slots: u16, rd: u8, rs2: u8) -> Emitted
+    requires { ⌜ (slots ≤ 32512) × (rd < 32) × (rs2 < 32) ⌝ }
+    ensures { λ r. ⌜ Emits slots (held em) (c-add rd rs2) r ⌝ }
+{
+    if rd == 0 {
+        return none(em);
+    }
+    let em = load_both(em, slots, rd, rs2);
+    let em = em.emit(A64Emitter::add_x(11, 9, 10));
+    go_on(store(em, slots, 11, rd))
+}
+
+// C.JR, C.MV, C.EBREAK, C.JALR and C.ADD, by bit 12 and the two registers.
+fn emit_c_jump_move_add(em: A64Emitter, host: Host, pc: u64, instr: u16) -> Emitted
+    requires { ⌜ host .slots ≤ 32512 ⌝ }
+    ensures { λ r. ⌜ Emits (host .slots) (held em) (c-jump-move-add (host .ebreak) pc instr) r ⌝ }
+{
+    let slots = host.slots;
+    let rd = rd_of(instr);
+    let rs2 = rs2_of(instr);
+    let bit12 = instr / 4096 % 2;
+    if bit12 == 0 {
+        if rs2 == 0 {
+            return emit_c_jr(em, slots, rd);
+        }
+        return emit_c_mv(em, slots, rd, rs2);
+    }
+    if rs2 == 0 {
+        if rd == 0 {
+            // C.EBREAK
+            if host.ebreak {
+                return go_on(em);
+            }
+            return none(em);
+        }
+        return emit_c_jalr(em, slots, pc, rd);
+    }
+    emit_c_add(em, slots, rd, rs2)
+}
+
+fn emit_quadrant_2(em: A64Emitter, host: Host, pc: u64, instr: u16) -> Emitted
+    requires { ⌜ host .slots ≤ 32512 ⌝ }
+    ensures { λ r. ⌜ Emits (host .slots) (held em) (quadrant-2 (host .ebreak) pc instr) r ⌝ }
+{
+    match instr / 0x2000 % 8 {
+        0b000 => emit_c_slli(em, host.slots, instr),
+        0b100 => emit_c_jump_move_add(em, host, pc, instr),
+        _ => none(em),
+    }
+}
+
+pub fn emit_native_instr16(em: A64Emitter, host: Host, pc: u64, instr: u16) -> Emitted
+    requires { ⌜ host .slots ≤ 32512 ⌝ }
+    ensures { λ r. ⌜ Emits (host .slots) (held em) (emit-native-instr16 (host .ebreak) pc instr) r ⌝ }
+{
+    match instr % 4 {
+        0b00 => emit_quadrant_0(em, host.slots, instr),
+        0b01 => emit_quadrant_1(em, host.slots, pc, instr),
+        0b10 => emit_quadrant_2(em, host, pc, instr),
+        _ => none(em),
+    }
+}

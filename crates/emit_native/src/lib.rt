@@ -1,0 +1,32 @@
+// The emitters of jit_arm64.rs, ported: one instruction's words.
+use a64::A64Emitter;
+
+mod calls;
+pub mod instr16;
+pub mod instr32;
+mod op;
+mod op_32;
+mod op_imm;
+pub mod term_helper;
+
+// What an emitter answers: the block goes on, ends, or the instruction is not inline.
+pub enum EmitFlow {
+    Continue,
+    Terminate,
+    None,
+}
+
+// The emitter, with what it was given, and the flow.
+pub struct Emitted {
+    pub em: A64Emitter,
+    pub flow: EmitFlow,
+}
+
+// What the host gives: the slot offset, the three helpers' addresses, and whether C.EBREAK is ignored.
+pub struct Host {
+    pub slots: u16,
+    pub memory: u64,
+    pub exec32: u64,
+    pub exec16: u64,
+    pub ebreak: bool,
+}

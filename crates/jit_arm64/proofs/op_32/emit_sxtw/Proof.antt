@@ -1,9 +1,0 @@
-use borrow.Author.Needs.{needs}
-use Rattle.jit_arm64.proofs.op_32.emit_sxtw.Statement.{statement}
-use Rattle.jit_arm64.proofs.op_32.emit_sxtw.Tie as tie
-
-returns : tie.Need-returns
-returns c = rw (c .emit .ensures, c .before .sxtw-x .ensures)
-
-pub emit-sxtw-spec : {M : Type 1} → statement M
-emit-sxtw-spec = tie.close (tie.spec (λ c κs. search needs) (λ c κs. search needs) returns)
