@@ -1,3 +1,4 @@
 pub mod Rows
 pub mod Refusals
 pub mod Turns
+pub mod Walking

@@ -162,6 +162,14 @@ pub record TurnedOf (slots : ℕ) (t : Turn) (l : List ℕ) (n : ℕ) (l′ : Li
   pub outcome : r .outcome ≡ t .outcome
   pub room : r .len ≤ n + most (t .outcome)
 
+-- the most words of all instructions: 29 for each, or a helper's behind 63 others
+unfoldable pub most-walked : Stop → ℕ
+most-walked Helper = 29 * 63 + 33
+most-walked Limit = 29 * max-steps
+most-walked Ended = 29 * max-steps
+most-walked Uncovered = 29 * max-steps
+most-walked NotFetched = 29 * max-steps
+
 -- all the instructions' words
 pub record WalkedOf (slots start : ℕ) (w : Walk) (l′ : List ℕ) (r : Walked) : Type 0 where
   pub long : length l′ ≡ max-words
@@ -170,12 +178,12 @@ pub record WalkedOf (slots start : ℕ) (w : Walk) (l′ : List ℕ) (r : Walked
   pub stop : r .stop ≡ w .stop
   pub pc : add start (r .index) ≡ w .pc
   pub few : r .count ≤ max-steps
-  pub room : r .len ≤ 29 * max-steps
+  pub room : r .len ≤ most-walked (r .stop)
 
 -- the block's words
 pub record BlockOf (slots : ℕ) (w : Walk) (l′ : List ℕ) (r : NativeBlock) : Type 0 where
   pub long : length l′ ≡ max-words
+  pub holds : take (r .len) l′ ≡ words slots (block-calls w)
   pub count : r .count ≡ w .count
   pub stop : r .stop ≡ w .stop
-  pub holds : (1 ≤ w .count → take (r .len) l′ ≡ words slots (block-calls w))
   pub room : r .len ≤ max-words

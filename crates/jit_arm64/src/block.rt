@@ -3,7 +3,7 @@ ghost use mathlib.Core.Path.{_≡_};
 ghost use Prim.Native.Nat.{_+_, _*_, _<_, _≤_, min};
 ghost use lib.ListN.{length};
 ghost use Rattle.a64.specs.Emitter.{max-words, held};
-ghost use Rattle.jit_arm64.specs.Block.{max-steps, fetch, fetch-upper, instr16-turn, instr-turn, turn, none-outcome, whole-walk, PartOf, TurnedOf, WalkedOf, BlockOf};
+ghost use Rattle.jit_arm64.specs.Block.{max-steps, fetch, fetch-upper, instr16-turn, instr-turn, turn, none-outcome, walk, whole-walk, PartOf, TurnedOf, WalkedOf, BlockOf};
 use emit_native::EmitFlow;
 use emit_native::Emitted;
 use emit_native::Host;
@@ -216,5 +216,51 @@ fn compile_instr(
                 outcome,
             }
         }
+    }
+}
+
+// The instructions from `start` on, at most `limit` of them.
+fn walk(
+    words: &mut [u32; MAX_WORDS],
+    guest: &[u8],
+    start: u64,
+    limit: u32,
+    host: Host,
+) -> Walked
+    requires { ⌜ (length (now words) ≡ max-words) × (host .slots ≤ 32512) × (limit ≤ max-steps) ⌝ }
+    ensures { λ r. ⌜ WalkedOf (host .slots) start (walk host (now (guest .entry)) start limit 0 0) (now (words .exit)) r ⌝ }
+{
+    let mut len: usize = 0;
+    let mut i: usize = 0;
+    let mut n: u32 = 0;
+    let stop = loop {
+        if n == limit {
+            break Stop::Limit;
+        }
+        let pc = std::num::wrapping_add_u64(start, i as u64);
+        let t = compile_instr(words, len, guest, i, pc, host, n);
+        len = t.len;
+        let outcome = t.outcome;
+        match outcome {
+            Outcome::GoOn => i += t.size,
+            Outcome::End => {
+                i += t.size;
+                n += 1;
+                break Stop::Ended;
+            }
+            Outcome::Help => {
+                n += 1;
+                break Stop::Helper;
+            }
+            Outcome::Pass => break Stop::Uncovered,
+            Outcome::Lack => break Stop::NotFetched,
+        }
+        n += 1;
+    };
+    Walked {
+        len,
+        count: n,
+        index: i as u64,
+        stop,
     }
 }
