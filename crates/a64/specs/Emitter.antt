@@ -1,5 +1,5 @@
 -- The words that an emitter holds, and what the calls that add words leave.
-use Prim.Native.Nat.{ℕ, _+_, _*_, _/_, _%_, _^_}
+use Prim.Native.Nat.{ℕ, _+_, _*_, _/_, _%_, _^_, _≤_}
 use mathlib.Core.Path.{_≡_}
 use mathlib.Core.Bool.{Bool, true, false, cond}
 use mathlib.Core.List.{List, [], _∷_, _++_, map}
@@ -45,6 +45,7 @@ constant rd v = Movz rd 0 (v % 65536) ∷ (upper rd 1 (halfword 1 v) ++ (upper r
 pub record Added (l : List ℕ) (n : ℕ) (l′ : List ℕ) (r : ℕ) (ws : List ℕ) : Type 0 where
   pub long : length l′ ≡ max-words
   pub holds : take r l′ ≡ emitted (take n l) ws
+  pub room : (n ≤ max-words → r ≤ max-words)
 
 -- words as bytes, lowest first
 abbrev pub word-bytes : ℕ → List ℕ

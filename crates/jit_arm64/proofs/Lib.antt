@@ -2,3 +2,4 @@ pub mod Rows
 pub mod Refusals
 pub mod Turns
 pub mod Walking
+pub mod Ending

@@ -61,7 +61,7 @@ module _ (slots : ℕ) where
       omega (arith, size-append slots cs (call-helper helper k), size-le slots cs, call-size helper k)
 
   -- a constant of 16 bits
-  small : (rd v : ℕ) → v < 65536 → size slots (mov-imm64 rd v ∷ []) ≡ 1
+  pub small : (rd v : ℕ) → v < 65536 → size slots (mov-imm64 rd v ∷ []) ≡ 1
   unfolding flatten
   small rd v h = rw (append-nil (constant rd v)) (constant-small rd v h)
 

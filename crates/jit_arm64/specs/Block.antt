@@ -120,13 +120,20 @@ walk h guest start (suc left) emitted i =
 
 -- ---- the block
 
+-- the count into X1, RET; and behind the next PC into X0
+abbrev pub return-calls : ℕ → List Call
+return-calls count = mov-imm64 1 count ∷ emit ret ∷ []
+
+abbrev pub next-calls : ℕ → ℕ → List Call
+next-calls pc count = mov-imm64 0 pc ∷ return-calls count
+
 -- `if !helper_terminator { if !terminated { .. } .. }`
 unfoldable pub end-calls : Stop → ℕ → ℕ → List Call
 end-calls Helper pc count = []
-end-calls Ended pc count = mov-imm64 1 count ∷ emit ret ∷ []
-end-calls Limit pc count = mov-imm64 0 pc ∷ mov-imm64 1 count ∷ emit ret ∷ []
-end-calls Uncovered pc count = mov-imm64 0 pc ∷ mov-imm64 1 count ∷ emit ret ∷ []
-end-calls NotFetched pc count = mov-imm64 0 pc ∷ mov-imm64 1 count ∷ emit ret ∷ []
+end-calls Ended pc count = return-calls count
+end-calls Limit pc count = next-calls pc count
+end-calls Uncovered pc count = next-calls pc count
+end-calls NotFetched pc count = next-calls pc count
 
 abbrev pub block-calls : Walk → List Call
 block-calls w = w .calls ++ end-calls (w .stop) (w .pc) (w .count)

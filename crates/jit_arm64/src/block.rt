@@ -1,14 +1,18 @@
 // `compile_native_block`: limit, alignment and fetch around the emitters.
 ghost use mathlib.Core.Path.{_≡_};
-ghost use Prim.Native.Nat.{_+_, _*_, _<_, _≤_, min};
+ghost use Prim.Native.Nat.{ℕ, _+_, _*_, _<_, _≤_, min};
 ghost use lib.ListN.{length};
-ghost use Rattle.a64.specs.Emitter.{max-words, held};
-ghost use Rattle.jit_arm64.specs.Block.{max-steps, fetch, fetch-upper, instr16-turn, instr-turn, turn, none-outcome, walk, whole-walk, PartOf, TurnedOf, WalkedOf, BlockOf};
+ghost use Rattle.a64.specs.Emitter.{max-words, held, emitted-all};
+ghost use Rattle.emit_native.specs.Calls.{groups};
+ghost use Rattle.jit_arm64.specs.Block.{max-steps, fetch, fetch-upper, instr16-turn, instr-turn, turn, none-outcome, walk, return-calls, next-calls, end-calls, whole-walk, PartOf, TurnedOf, WalkedOf, BlockOf};
 use emit_native::EmitFlow;
 use emit_native::Emitted;
 use emit_native::Host;
 use a64::A64Emitter;
 use a64::MAX_WORDS;
+
+// `max_steps.min(64)`
+const MAX_STEPS: u32 = 64;
 
 // What stands at an index of the guest bytes: a halfword is missing, or a 16-bit or a 32-bit instruction.
 pub enum Fetched {
@@ -261,6 +265,65 @@ fn walk(
         len,
         count: n,
         index: i as u64,
+        stop,
+    }
+}
+
+// The count into X1, RET.
+fn emit_return(em: A64Emitter, count: u32) -> A64Emitter
+    ensures { λ r. ⌜ ((slots : ℕ) → held r ≡ emitted-all (held em) (groups slots (return-calls count))) ⌝ }
+{
+    let em = em.mov_imm64(1, count as u64);
+    em.emit(A64Emitter::ret())
+}
+
+// The same, behind the next PC into X0.
+fn emit_next(em: A64Emitter, pc: u64, count: u32) -> A64Emitter
+    ensures { λ r. ⌜ ((slots : ℕ) → held r ≡ emitted-all (held em) (groups slots (next-calls pc count))) ⌝ }
+{
+    let em = em.mov_imm64(0, pc);
+    emit_return(em, count)
+}
+
+// The end of a block, by why the walk stopped.
+fn emit_end(em: A64Emitter, stop: Stop, pc: u64, count: u32) -> A64Emitter
+    ensures { λ r. ⌜ ((slots : ℕ) → held r ≡ emitted-all (held em) (groups slots (end-calls stop pc count))) ⌝ }
+{
+    match stop {
+        Stop::Helper => em,
+        Stop::Ended => emit_return(em, count),
+        Stop::Limit => emit_next(em, pc, count),
+        Stop::Uncovered => emit_next(em, pc, count),
+        Stop::NotFetched => emit_next(em, pc, count),
+    }
+}
+
+fn clamped(limit: u32) -> u32
+    ensures { λ r. ⌜ r ≡ min limit max-steps ⌝ }
+{
+    if limit < MAX_STEPS { limit } else { MAX_STEPS }
+}
+
+// The block's words: those of its instructions, then its end.
+pub fn compile_native_block(
+    words: &mut [u32; MAX_WORDS],
+    guest: &[u8],
+    pc: u64,
+    limit: u32,
+    host: Host,
+) -> NativeBlock
+    requires { ⌜ (length (now words) ≡ max-words) × (host .slots ≤ 32512) ⌝ }
+    ensures { λ r. ⌜ BlockOf (host .slots) (whole-walk host (now (guest .entry)) pc limit) (now (words .exit)) r ⌝ }
+{
+    let walked = walk(words, guest, pc, clamped(limit), host);
+    let count = walked.count;
+    let stop = walked.stop;
+    let next = std::num::wrapping_add_u64(pc, walked.index);
+    let end = emit_end(A64Emitter::new(), stop, next, count);
+    let len = a64::append(words, walked.len, end);
+    NativeBlock {
+        len,
+        count,
         stop,
     }
 }

@@ -24,7 +24,7 @@ returns c =
     let lp : length (p .words) ≡ max-words = search needs in
     let h : length (take (p .len) (p .words)) ≡ min (p .len) max-words = rw lp at (length-take (p .len) (p .words)) in
     let k = c .before .held-count .ensures in
-    record { long = search needs; holds = sym (kept (a .words .now) (a .at) (take (p .len) (p .words)) (search needs) (omega arith)) }
+    record { long = search needs; holds = sym (kept (a .words .now) (a .at) (take (p .len) (p .words)) (search needs) (omega arith)); room = λ h. h }
 
 loop-holds : tie.Need-loop-holds Inv-loop μ-loop
 loop-holds c = let a = c .before .before .args in (search needs, paste-zero (a .words .now) (a .at) (a .t3 .words))
@@ -53,6 +53,7 @@ returns-2 c =
     record {
       long = rw (l .inv .1) (lx ∙ lw);
       holds = rw (l .inv .1, e, n) (pasted (a .words .now) (a .at) (a .t3 .words) (a .t3 .len) lw lp (omega arith));
+      room = λ h. omega arith;
     }
 
 pub append-spec : {M : Type 1} → statement M

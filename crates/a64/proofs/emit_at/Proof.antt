@@ -9,12 +9,12 @@ use Rattle.a64.proofs.emit_at.Tie as tie
 returns : tie.Need-returns
 returns c =
     let a = c .before .args in
-    record { long = search needs; holds = stored (a .words .now) (a .at) (a .w) (search needs) (search needs) }
+    record { long = search needs; holds = stored (a .words .now) (a .at) (a .w) (search needs) (search needs); room = λ h. omega arith }
 
 returns-2 : tie.Need-returns-2
 returns-2 c =
     let a = c .before .args in
-    record { long = c .before .pre; holds = sym (kept (a .words .now) (a .at) (a .w ∷ []) (search needs) (omega arith)) }
+    record { long = c .before .pre; holds = sym (kept (a .words .now) (a .at) (a .w ∷ []) (search needs) (omega arith)); room = λ h. h }
 
 pub emit-at-spec : {M : Type 1} → statement M
 emit-at-spec = tie.close (tie.spec (λ c. search needs) (λ c. search needs) (λ c. search needs) returns returns-2)

@@ -17,7 +17,7 @@ returns c =
     let l = constant-length (s .rd) (s .val) _ _ _ u1 u2 u3 in
     let ws = encoded (constant (s .rd) (s .val)) in
     let m : length ws ≡ length (constant (s .rd) (s .val)) = length-encoded (constant (s .rd) (s .val)) in
-    record { long = search needs; holds = sym (kept (s .words .now) (s .at) ws (search needs) (omega arith)) }
+    record { long = search needs; holds = sym (kept (s .words .now) (s .at) ws (search needs) (omega arith)); room = λ h. h }
 
 returns-2 : tie.Need-returns-2
 returns-2 c =
@@ -40,6 +40,7 @@ returns-2 c =
             c .before .before .before .before .before .before .emit-at .ensures .holds,
           )
           (constant-one h (s .rd) (s .val) f);
+      room = λ h. c .upper-at3 .ensures .room (c .before .before .upper-at2 .ensures .room (c .before .before .before .before .upper-at .ensures .room (c .before .before .before .before .before .before .emit-at .ensures .room h)));
     }
 
 pub mov-imm64-at-spec : {M : Type 1} → statement M
