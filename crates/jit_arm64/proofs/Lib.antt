@@ -3,3 +3,4 @@ pub mod Refusals
 pub mod Turns
 pub mod Walking
 pub mod Ending
+pub mod Translating

@@ -30,7 +30,7 @@ step-count Help t start k i rest h = omega arith
 step-count Pass t start k i rest h = omega arith
 step-count Lack t start k i rest h = omega arith
 
-walk-count : (h : Host) (guest : List ℕ) (start left k i : ℕ) → k ≤ (walk h guest start left k i) .count
+pub walk-count : (h : Host) (guest : List ℕ) (start left k i : ℕ) → k ≤ (walk h guest start left k i) .count
 unfolding walk
 walk-count h guest start zero k i = omega arith
 walk-count h guest start (suc left) k i =

@@ -16,6 +16,10 @@ use Rattle.jit_arm64.specs.declared.block.Stop.the-variants.{Limit, Ende
 use Rattle.emit_native.specs.Calls.{words}
 use Rattle.jit_arm64.specs.Block.{Walk, fetch, turn, block-calls, whole-walk}
 
+-- what the caller gives: the slot offset, the three helpers' addresses, and whether C.EBREAK is ignored
+abbrev pub host : ℕ → ℕ → ℕ → ℕ → Bool → Host
+host slots memory exec32 exec16 e = record { slots = slots; memory = memory; exec32 = exec32; exec16 = exec16; ebreak = e }
+
 -- the greatest slot offset
 abbrev pub max-slots : ℕ
 max-slots = 32512
@@ -37,6 +41,14 @@ is-uncovered End = false
 is-uncovered Help = false
 is-uncovered Pass = true
 is-uncovered Lack = false
+
+-- refusal 4 or 5, by why the walk stopped at the first instruction
+unfoldable pub at-first : Stop → ℕ
+at-first NotFetched = 4
+at-first Limit = 5
+at-first Ended = 5
+at-first Helper = 5
+at-first Uncovered = 5
 
 -- the bytes of the block
 unfoldable pub block-bytes : Host → List ℕ → ℕ → ℕ → List ℕ
