@@ -92,7 +92,7 @@ number-bytes (suc k) v h =
     rw (number-bytes k (v / 256) l) (omega arith)
 
 -- every element is a byte
-pub Bytes : List ℕ → Type 0
+unfoldable pub Bytes : List ℕ → Type 0
 Bytes m = (i : ℕ) → getD m i 0 < 256
 
 number-lt : (k : ℕ) (l : List ℕ) → Bytes l → length l ≤ k → number l < 256 ^ k
