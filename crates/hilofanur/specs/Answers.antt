@@ -4,6 +4,7 @@ use mathlib.Core.List.{List, [], _∷_, _++_}
 use Prim.Native.Nat.{ℕ}
 use lib.Dec.{eqb}
 use Rattle.le.specs.Le.{load}
+use Rattle.jit_arm64.specs.declared.Answer as T
 use Rattle.code_cache.specs.declared.Placed.{Placed}
 use Rattle.code_cache.specs.Place as P
 use Rattle.rv64.specs.declared.run.Hart.{Hart}
@@ -13,10 +14,16 @@ use Rattle.a64_run.specs.declared.state.A64State.{A64State}
 use Rattle.a64_run.specs.declared.run.Answer.{Answer}
 use Rattle.a64_run.specs.Nzcv.{flagsOf, nzcvOf}
 use Rattle.a64_run.specs.Run as R
+use Rattle.hilofanur.specs.declared.TranslateAnswer.{TranslateAnswer}
 use Rattle.hilofanur.specs.declared.PlaceAnswer.{PlaceAnswer}
 use Rattle.hilofanur.specs.declared.A64RunAnswer.{A64RunAnswer}
 use Rattle.hilofanur.specs.declared.Rv64RunAnswer.{Rv64RunAnswer}
 use Rattle.hilofanur.specs.Bytes.{numbers, bytes-of}
+
+-- ---- Translate
+
+abbrev pub translate-of : T.Answer → TranslateAnswer
+translate-of a = record { refusal = a .refusal; length = a .length; count = a .count; helper = a .helper }
 
 -- ---- Place
 

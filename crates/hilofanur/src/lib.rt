@@ -1,5 +1,8 @@
 // The operations over the C boundary: numbers and byte slices.
 ghost use mathlib.Core.Path.{_≡_};
+ghost use lib.ListN.{take};
+ghost use Rattle.jit_arm64.specs.Translate as T;
+ghost use Rattle.translation.specs.Demand3.{Demand3};
 ghost use Rattle.code_cache.specs.Place.{store-after};
 ghost use Rattle.rv64.specs.Run as Rv64;
 ghost use Rattle.a64_run.specs.Run as R;
@@ -11,6 +14,15 @@ mod rv64_hart;
 
 use a64_run::run;
 use rv64::run as rv64_run;
+
+// The refusal, 0 where the block was written; its length in bytes; its count of instructions; 1 where a helper ended it.
+#[repr(C)]
+pub struct TranslateAnswer {
+    pub refusal: u32,
+    pub length: u32,
+    pub count: u32,
+    pub helper: u32,
+}
 
 // The refusal, 0 where the code was placed; where it starts; how much of the store is then used.
 #[repr(C)]
@@ -34,6 +46,42 @@ pub struct Rv64RunAnswer {
     pub refusal: u32,
     pub count: u32,
     pub next_pc: u64,
+}
+
+// memory, exec32 and exec16: the addresses of the memory helper and of the 32-bit and the 16-bit one.
+#[no_mangle]
+pub extern "C" fn hilofanur_translate(
+    guest: &[u8],
+    pc: u64,
+    limit: u32,
+    ignore_ebreak: bool,
+    slot_offset: u64,
+    memory: u64,
+    exec32: u64,
+    exec16: u64,
+    output: &mut [u8],
+) -> TranslateAnswer
+    ensures { λ r. ⌜ r ≡ Answers.translate-of (T.translate (T.host «slot_offset» memory exec32 exec16 «ignore_ebreak») (now (guest .entry)) pc limit (now (output .entry))) ⌝ }
+    ensures { λ r. ⌜ now (output .exit) ≡ T.output-after (T.host «slot_offset» memory exec32 exec16 «ignore_ebreak») (now (guest .entry)) pc limit (now (output .entry)) ⌝ }
+    ensures { λ r. ⌜ (r .refusal ≡ 0 → r .helper ≡ 0 → Demand3 (now (guest .entry)) pc limit «ignore_ebreak» «slot_offset» (take (r .length) (now (output .exit))) (r .count)) ⌝ }
+{
+    let a = translation::translate(
+        guest,
+        pc,
+        limit,
+        ignore_ebreak,
+        slot_offset,
+        memory,
+        exec32,
+        exec16,
+        output,
+    );
+    TranslateAnswer {
+        refusal: a.refusal,
+        length: a.length,
+        count: a.count,
+        helper: a.helper,
+    }
 }
 
 #[no_mangle]
