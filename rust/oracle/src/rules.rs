@@ -1,5 +1,6 @@
 //! Document 01's "How a block is read" and "Place", read a second time and compared with the Rust.
 
+use crate::marked::HELPERS;
 use crate::random::Random;
 use crate::{place, translate, Answer, LONGEST};
 
@@ -171,7 +172,7 @@ pub fn compare(case: &Case) -> Result<Answer, String> {
 }
 
 fn short(guest: Vec<u8>, limit: u32, ignore_ebreak: bool) -> Case {
-    let (pc, slot_offset, helpers) = (0x1000, 0, [0x10000, 0x20000, 0x30000]);
+    let (pc, slot_offset, helpers) = (0x1000, 0, HELPERS);
     Case { guest, pc, limit, ignore_ebreak, slot_offset, helpers, room: LONGEST }
 }
 
