@@ -1,5 +1,6 @@
 //! emuko's own translator, built from its source text, behind document 01's operations.
 
+pub mod draw;
 mod emuko;
 pub mod marked;
 pub mod program;
