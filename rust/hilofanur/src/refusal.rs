@@ -15,34 +15,34 @@ use std::fmt;
 /// ```
 #[derive(Clone, Copy, Debug, PartialEq, Eq, Hash)]
 pub enum Refusal {
-    /// 1, Translate: the slot offset is not a multiple of 8 or above 32,512.
-    SlotOffset,
-    /// 2, Translate and RV64 run: the limit is 0.
-    LimitZero,
-    /// 3, Translate and RV64 run: the PC is odd.
-    OddPc,
-    /// 4, Translate and RV64 run: the first instruction lacks a halfword.
-    NotFetched,
-    /// 5, Translate: the first instruction is neither inline nor helper; RV64 run: it is not inline.
-    NotCovered,
-    /// 6, Translate: the output is shorter than the block's bytes.
-    OutputShort,
-    /// 7, Place: the used length exceeds the store.
-    UsedExceedsStore,
-    /// 8, Place: the start plus the code length exceeds the store.
-    CodeExceedsStore,
-    /// 9, RV64 run: register 0 is not zero.
-    RegisterZero,
-    /// 10, A64 run: the block length is not a multiple of 4.
-    BlockLength,
-    /// 11, A64 run: the memory base plus the memory length exceeds 2^64.
-    MemoryExceedsTop,
+    /// Translate: the slot offset is not a multiple of 8 or above 32,512.
+    SlotOffset = 1,
+    /// Translate and RV64 run: the limit is 0.
+    LimitZero = 2,
+    /// Translate and RV64 run: the PC is odd.
+    OddPc = 3,
+    /// Translate and RV64 run: the first instruction lacks a halfword.
+    NotFetched = 4,
+    /// Translate: the first instruction is neither inline nor helper; RV64 run: it is not inline.
+    NotCovered = 5,
+    /// Translate: the output is shorter than the block's bytes.
+    OutputShort = 6,
+    /// Place: the used length exceeds the store.
+    UsedExceedsStore = 7,
+    /// Place: the start plus the code length exceeds the store.
+    CodeExceedsStore = 8,
+    /// RV64 run: register 0 is not zero.
+    RegisterZero = 9,
+    /// A64 run: the block length is not a multiple of 4.
+    BlockLength = 10,
+    /// A64 run: the memory base plus the memory length exceeds 2^64.
+    MemoryExceedsTop = 11,
 }
 
 use Refusal::*;
 
 impl Refusal {
-    /// Every refusal, by number: the first is 1.
+    /// Every refusal, by number.
     pub const ALL: [Refusal; 11] = [
         SlotOffset,
         LimitZero,
@@ -59,7 +59,7 @@ impl Refusal {
 
     /// Document 01's number, 1 to 11.
     pub fn number(self) -> u32 {
-        self as u32 + 1
+        self as u32
     }
 
     /// The refusal with this number.

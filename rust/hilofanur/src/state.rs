@@ -71,29 +71,29 @@ fn numbers<const N: usize>(bytes: &[u8]) -> [u64; N] {
 /// How an A64 run ended.
 #[derive(Clone, Copy, Debug, PartialEq, Eq, Hash)]
 pub enum End {
-    /// 1: no word is left.
-    OffTheEnd,
-    /// 2: the budget is used.
-    Spent,
-    /// 3: a word outside the 24 forms.
-    Unreadable,
-    /// 4: an access not wholly inside memory, not a multiple of 8, or through SP not a multiple of 16.
-    Fault,
-    /// 5: RET.
-    Returned,
-    /// 6: BLR; X30 holds the next word's address.
-    Called,
+    /// No word is left.
+    OffTheEnd = 1,
+    /// The budget is used.
+    Spent = 2,
+    /// A word outside the 24 forms.
+    Unreadable = 3,
+    /// An access not wholly inside memory, not a multiple of 8, or through SP not a multiple of 16.
+    Fault = 4,
+    /// RET.
+    Returned = 5,
+    /// BLR; X30 holds the next word's address.
+    Called = 6,
 }
 
 use End::*;
 
 impl End {
-    /// Every end, by number: the first is 1.
+    /// Every end, by number.
     pub const ALL: [End; 6] = [OffTheEnd, Spent, Unreadable, Fault, Returned, Called];
 
     /// The number at the C boundary, 1 to 6.
     pub fn number(self) -> u32 {
-        self as u32 + 1
+        self as u32
     }
 
     /// The end with this number.
