@@ -5,6 +5,9 @@ use oracle::draw::{BAD_SLOTS, INLINE16, LEFTOVER, UNCOVERED};
 use oracle::random::Random;
 use oracle::rules::Case;
 
+const DIV: Form = (0x0200_4033, 0xFE00_707F);
+const REM: Form = (0x0200_6033, 0xFE00_707F);
+
 pub struct Guests {
     inline: Vec<Form>,
     all: Vec<Form>,
@@ -28,6 +31,12 @@ impl Guests {
         guest
     }
 
+    /// An instruction after which a block goes on; half the time one of those with the most words.
+    fn repeated(&self, random: &mut Random) -> Vec<u8> {
+        let forms = if random.below(2) == 0 { &[DIV, REM] } else { &self.inline[..] };
+        draw_next(random, forms)
+    }
+
     /// Random bytes, or a stream, now and then cut or with a bit changed.
     fn guest(&self, random: &mut Random) -> Vec<u8> {
         let many = match random.below(32) {
@@ -38,7 +47,7 @@ impl Guests {
         let mut guest = match random.below(16) {
             0 => random_bytes(random, 33),
             1 => random_bytes(random, 300),
-            2 => draw_next(random, &self.inline).repeat(58 + many),
+            2 => self.repeated(random).repeat(58 + many),
             _ => self.stream(random, many),
         };
         match random.below(8) {
@@ -52,22 +61,33 @@ impl Guests {
         guest
     }
 
-    /// A question to Translate. Refusals 1 to 3 apply to one in twelve or so.
+    /// A question to Translate. Refusals 1 to 3 apply to one in eight or so, now and then together.
     pub fn case(&self, random: &mut Random) -> Case {
         let guest = self.guest(random);
         let mut case = draw_case(random, guest);
         if random.below(4) == 0 {
             case.pc = (2 * random.below(200) as u64).wrapping_sub(200);
         }
-        match random.below(32) {
-            0 => case.slot_offset = random.pick(&BAD_SLOTS),
-            1 => case.slot_offset = (8 * random.below(64) as u64).wrapping_sub(256),
-            2 => case.slot_offset = random.next(),
-            3 => case.limit = 0,
-            4 => case.pc |= 1,
-            _ => {}
+        if random.below(8) == 0 {
+            spoil(random, &mut case);
         }
         case
+    }
+}
+
+/// Makes refusals 1 to 3 apply, some of them or none.
+fn spoil(random: &mut Random, case: &mut Case) {
+    match random.below(8) {
+        0 | 1 => case.slot_offset = random.pick(&BAD_SLOTS),
+        2 => case.slot_offset = (8 * random.below(64) as u64).wrapping_sub(256),
+        3 => case.slot_offset = random.next(),
+        _ => {}
+    }
+    if random.below(2) == 0 {
+        case.limit = 0;
+    }
+    if random.below(2) == 0 {
+        case.pc |= 1;
     }
 }
 
