@@ -269,7 +269,7 @@ fn placed() -> Vec<u8> {
             2 => size as u64,
             _ => random.below(size + 1) as u64,
         };
-        let start = (used as u128 + 3) / 4 * 4;
+        let start = u128::from(used).next_multiple_of(4);
         let left = (size as u128).saturating_sub(start) as usize;
         let length = match index % 4 {
             0 => left,
