@@ -1,5 +1,6 @@
 //! Guest bytes, questions and numbers, edges more often than the rest.
 
+use hilofanur::{Guest, Host};
 use oracle::draw::{draw, draw_case, draw_next, helper, inline32, Form};
 use oracle::draw::{BAD_SLOTS, INLINE16, LEFTOVER, UNCOVERED};
 use oracle::random::Random;
@@ -89,6 +90,16 @@ fn spoil(random: &mut Random, case: &mut Case) {
     if random.below(2) == 0 {
         case.pc |= 1;
     }
+}
+
+/// The question as the library takes it.
+pub fn question(case: &Case) -> (Guest<'_>, Host) {
+    let Case { guest: ref bytes, pc, limit, ignore_ebreak, slot_offset, helpers, .. } = *case;
+    let [memory_helper, helper32, helper16] = helpers;
+    (
+        Guest { bytes, pc, limit, ignore_ebreak },
+        Host { slot_offset, memory_helper, helper32, helper16 },
+    )
 }
 
 /// Fewer than `bound` bytes.

@@ -1,6 +1,7 @@
 //! The proved operations compared with their references on inputs drawn from a seed; the README says which.
 
 mod a64;
+mod blocks;
 mod draw;
 mod place;
 mod rv64;
@@ -72,6 +73,7 @@ fn main() {
         run(place::Place::new(), count, seed),
         run(rv64::Rv64::new(), count, seed),
         run(a64::A64::new(), count, seed),
+        run(blocks::Blocks::new(), count, seed),
     ];
     if same.contains(&false) {
         std::process::exit(1)

@@ -1,10 +1,9 @@
 //! RV64 run against the plain stepper: refusals, count, next PC, registers.
 
-use crate::draw::{value, Guests};
+use crate::draw::{question, value, Guests};
 use crate::Compared;
-use hilofanur::{boundary, Guest, Registers};
+use hilofanur::{boundary, Registers};
 use oracle::random::Random;
-use oracle::rules::Case;
 use steppers::rv64_run;
 
 pub struct Rv64 {
@@ -26,15 +25,16 @@ impl Compared for Rv64 {
 
     fn compare(&mut self, random: &mut Random) -> Result<usize, String> {
         let case = self.guests.case(random);
-        let Case { guest: ref bytes, pc, limit, ignore_ebreak, .. } = case;
+        let (guest, _) = question(&case);
         let mut before: [u64; 32] = std::array::from_fn(|_| value(random));
         if random.below(16) != 0 {
             before[0] = 0;
         }
         let mut registers = before;
-        let expected = rv64_run(bytes, pc, limit, ignore_ebreak, &mut registers);
+        let expected =
+            rv64_run(guest.bytes, guest.pc, guest.limit, guest.ignore_ebreak, &mut registers);
         let mut lent = Registers { x: before }.to_bytes();
-        let answer = boundary::rv64_run(&Guest { bytes, pc, limit, ignore_ebreak }, &mut lent);
+        let answer = boundary::rv64_run(&guest, &mut lent);
         let numbers = (expected.refusal, expected.count, expected.next_pc);
         if (answer.refusal, answer.count, answer.next_pc) != numbers
             || lent != (Registers { x: registers }).to_bytes()

@@ -1,9 +1,8 @@
 //! Translate against `compile_native_block`: refusals, words, count, helper mark, and the output behind the block.
 
-use crate::draw::Guests;
+use crate::draw::{question, Guests};
 use crate::Compared;
 use hilofanur::boundary;
-use hilofanur::{Guest, Host};
 use oracle::random::Random;
 use oracle::rules::{ask, Case};
 use oracle::{Answer, LONGEST};
@@ -26,11 +25,8 @@ impl Translate {
 
     /// The library's answer, and whether the output is `length` bytes of the Rust's block and then as it was.
     fn ask(&mut self, case: &Case, length: usize) -> (Answer, bool) {
-        let Case { ref guest, pc, limit, ignore_ebreak, slot_offset, helpers, room } = *case;
-        let [memory_helper, helper32, helper16] = helpers;
-        let guest = Guest { bytes: guest, pc, limit, ignore_ebreak };
-        let host = Host { slot_offset, memory_helper, helper32, helper16 };
-        let a = boundary::translate(&guest, &host, &mut self.output[..room]);
+        let (guest, host) = question(case);
+        let a = boundary::translate(&guest, &host, &mut self.output[..case.room]);
         let same = self.output[..length] == self.block[..length]
             && self.output[length..] == self.fill[length..];
         let written = if same { length } else { self.output.len() };
