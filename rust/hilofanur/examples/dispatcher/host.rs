@@ -2,7 +2,7 @@
 
 use super::code::HOST;
 use super::memory::Access;
-use hilofanur::{a64_run, rv64_run, A64Run, A64State, Block, End, Guest, Registers};
+use hilofanur::{a64_run, rv64_run, A64Run, A64State, Block, End, Guest, Refusal, Registers};
 use std::ops::Range;
 
 const BASE: u64 = 0x7FFF_0000_0000;
@@ -20,10 +20,11 @@ pub struct HostSide {
     runs: u64,
 }
 
-/// What a block did: the guest's registers and next PC, and what the two runs differ in.
+/// What a block's words did: the guest's registers, the next PC or that of the helper's instruction, and what the RV64
+/// run has otherwise.
 pub struct Done {
     pub registers: Registers,
-    pub next_pc: u64,
+    pub pc: u64,
     pub instructions: u32,
     pub steps: u64,
     pub differences: Vec<String>,
@@ -78,28 +79,47 @@ impl HostSide {
         // Before a helper instruction the RV64 run stops; as the first it is refused.
         let (count, next_pc) = match rv64_run(guest, &mut registers) {
             Ok(run) => (run.count, run.next_pc),
-            Err(_) if block.helper && block.count == 1 => (0, guest.pc),
+            Err(Refusal::NotCovered) if block.helper && block.count == 1 => (0, guest.pc),
             Err(refusal) => return Err(format!("RV64 run at {:x}: {refusal}", guest.pc)),
         };
         let after = (state, self.memory);
         let run = Run { guest, block, before, after, ended, registers, next_pc, count };
-        let mut differences = Vec::new();
-        run.compare(budget, address, &mut differences);
-        let (instructions, steps) = (block.count, ended.steps);
-        Ok(Done { registers, next_pc, instructions, steps, differences })
+        Ok(Done {
+            registers: run.slots(),
+            pc: run.pc(),
+            instructions: block.count,
+            steps: ended.steps,
+            differences: run.differences(budget, address),
+        })
     }
 }
 
 impl Run<'_> {
+    /// The registers that the words left.
+    fn slots(&self) -> Registers {
+        Registers::from_bytes(self.after.1[SLOTS].first_chunk().unwrap())
+    }
+
+    /// The PC that the words left: in X0, or the last argument of a call.
+    fn pc(&self) -> u64 {
+        let x = &self.after.0.x;
+        match self.block.helper {
+            false => x[0],
+            true if x[16] == HOST.memory_helper => x[7],
+            true => x[6],
+        }
+    }
+
     /// What the A64 run left behind against the RV64 run.
-    fn compare(&self, words: u64, address: u64, differences: &mut Vec<String>) {
+    fn differences(&self, words: u64, address: u64) -> Vec<String> {
+        let mut differences = Vec::new();
         let mut same = |what: &str, same: bool| {
             if !same {
                 differences.push(format!("block at {:x}: {what}", self.guest.pc));
             }
         };
         let (entry, state) = (&self.before.0, &self.after.0);
-        same("registers", self.after.1[SLOTS] == self.registers.to_bytes());
+        same("registers", self.slots() == self.registers);
         same("other memory", self.other_memory());
         same("X18 to X29", state.x[18..30] == entry.x[18..30]);
         if self.block.helper {
@@ -116,6 +136,7 @@ impl Run<'_> {
             same("SP", state.sp == SP);
             same("X2 to X8, X30", state.x[2..9] == entry.x[2..9] && state.x[30] == entry.x[30]);
         }
+        differences
     }
 
     /// Memory outside the slots and, before a call, the saved X30.
@@ -151,16 +172,14 @@ impl Run<'_> {
     }
 }
 
-/// The instruction at a PC of the guest's bytes: 16 bits, or 32.
+/// The instruction at a PC of the guest's bytes, 16 bits or 32; beyond them 0.
 pub fn instruction(guest: &Guest, pc: u64) -> u32 {
-    let at = pc.wrapping_sub(guest.pc) as usize;
-    let halfword = |at: usize| match guest.bytes.get(at..at + 2) {
-        Some(two) => u32::from(u16::from_le_bytes([two[0], two[1]])),
-        None => 0,
-    };
-    match halfword(at) {
-        low if low & 3 == 3 => low | halfword(at + 2) << 16,
-        low => low,
+    let at = usize::try_from(pc.wrapping_sub(guest.pc)).unwrap_or(usize::MAX);
+    let bytes = guest.bytes.get(at..).unwrap_or(&[]);
+    match (bytes.first_chunk(), bytes.first_chunk()) {
+        (Some(&low), _) if low[0] & 3 != 3 => u16::from_le_bytes(low).into(),
+        (_, Some(&word)) => u32::from_le_bytes(word),
+        _ => 0,
     }
 }
 

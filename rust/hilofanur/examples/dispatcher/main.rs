@@ -92,7 +92,7 @@ impl Dispatcher {
                     self.take(&guest, block.helper, done)?;
                 }
                 Err(Refusal::NotCovered) => match self.system(instruction(&guest, self.pc))? {
-                    Flow::Next => self.pc += 4,
+                    Flow::Next => self.pc = self.pc.wrapping_add(4),
                     Flow::Ended(status) => return Ok(status),
                 },
                 Err(refusal) => return Err(format!("translate at {:x}: {refusal}", self.pc)),
@@ -103,7 +103,7 @@ impl Dispatcher {
     /// Takes over what a block did, and does the helper's instruction behind it.
     fn take(&mut self, guest: &Guest, helper: bool, done: Done) -> Result<(), String> {
         self.registers = done.registers;
-        self.pc = done.next_pc;
+        self.pc = done.pc;
         for difference in &done.differences {
             println!("  DIFFERENCE {difference}");
         }
@@ -128,7 +128,7 @@ impl Dispatcher {
         let error = |text: &str| format!("{instr:x} at {:x}: {text}", self.pc);
         let access = Access::decode(instr, &self.registers).ok_or(error("not served"))?;
         access.serve(&mut self.memory, &mut self.registers).map_err(|text| error(&text))?;
-        self.pc += access.length;
+        self.pc = self.pc.wrapping_add(access.length);
         if access.store {
             self.counts.stores += 1;
         } else {
@@ -174,7 +174,7 @@ fn print_block(pc: u64, block: &Block) {
 }
 
 fn hexadecimal(text: &str) -> Result<u64, String> {
-    let digits = text.trim_start_matches("0x");
+    let digits = text.strip_prefix("0x").unwrap_or(text);
     u64::from_str_radix(digits, 16).map_err(|_| format!("{text} is no hexadecimal number"))
 }
 
