@@ -1,24 +1,6 @@
 //! The benchmark's inputs, the same in every run.
 
-/// SplitMix64.
-pub struct Random(pub u64);
-
-impl Random {
-    pub fn next(&mut self) -> u64 {
-        self.0 = self.0.wrapping_add(0x9E37_79B9_7F4A_7C15);
-        let z = (self.0 ^ (self.0 >> 30)).wrapping_mul(0xBF58_476D_1CE4_E5B9);
-        let z = (z ^ (z >> 27)).wrapping_mul(0x94D0_49BB_1331_11EB);
-        z ^ (z >> 31)
-    }
-
-    pub fn below(&mut self, bound: u32) -> u32 {
-        (self.next() % u64::from(bound)) as u32
-    }
-
-    fn pick<T: Copy>(&mut self, choices: &[T]) -> T {
-        choices[self.below(choices.len() as u32) as usize]
-    }
-}
+use oracle::random::Random;
 
 /// Opcode with funct3, and the top bits that are fixed: 7 for OP and OP-32, 6 or 7 for shifts by a constant.
 #[derive(Clone, Copy)]
@@ -149,6 +131,15 @@ pub fn rv64_block(random: &mut Random, length: usize) -> Vec<u8> {
     guest
 }
 
+/// Guest bytes of one instruction of any kind.
+pub fn rv64_single(random: &mut Random) -> Vec<u8> {
+    let mut guest = Vec::new();
+    let kinds = if random.below(8) == 0 { RV64_ENDS } else { RV64 };
+    let kind = random.pick(kinds);
+    push(random, &mut guest, kind);
+    guest
+}
+
 /// The three-register forms but for their registers.
 const THREE: &[u32] = &[
     0x8B00_0000, // ADD
@@ -180,16 +171,16 @@ pub fn a64_block(random: &mut Random, length: usize) -> Vec<u8> {
         let register = any % 31 + 1; // 1 to 31
         let (rn, rm) = (any >> 8 & 31, any >> 16 & 31);
         let base = random.pick(&[0, 0, 0, 31]);
-        let imm12 = random.below(4096) << 10;
+        let imm12 = (random.below(4096) as u32) << 10;
         // each of the 24 forms as often; RET and BLR end a run
         let word = match random.below(22) {
-            form @ 0..=12 => THREE[form as usize] | rm << 16 | rn << 5 | register,
+            form @ 0..=12 => THREE[form] | rm << 16 | rn << 5 | register,
             13 => 0xF940_0000 | imm12 | base << 5 | register,
             14 => 0xF900_0000 | imm12 | base << 5 | rn,
-            15 => 0xD280_0000 | random.below(4) << 21 | random.below(65536) << 5 | register,
-            16 => 0xF280_0000 | random.below(4) << 21 | random.below(65536) << 5 | register,
+            15 => 0xD280_0000 | (random.next() as u32 & 0x7F_FFE0) | register,
+            16 => 0xF280_0000 | (random.next() as u32 & 0x7F_FFE0) | register,
             17 => 0xEB00_001F | rm << 16 | rn << 5,
-            18 => 0x9A80_0000 | rm << 16 | random.below(16) << 12 | rn << 5 | register,
+            18 => 0x9A80_0000 | rm << 16 | (random.below(16) as u32) << 12 | rn << 5 | register,
             19 => 0x9340_7C00 | rn << 5 | register,
             _ if sp < 0 => {
                 sp += 16;

@@ -1,6 +1,7 @@
 //! The taken text, with what it leans on and does not hold, supplied as document 01 says.
 
-#![allow(dead_code)]
+// The taken text stays as it is.
+#![allow(dead_code, clippy::let_and_return)]
 
 include!(concat!(env!("OUT_DIR"), "/emuko.rs"));
 
@@ -42,7 +43,7 @@ impl Hart {
 
     /// Refusal 3.
     fn check_align(&self, addr: u64, size: u64) -> Result<(), Trap> {
-        if addr % size == 0 {
+        if addr.is_multiple_of(size) {
             Ok(())
         } else {
             Err(Trap::MisalignedAccess { addr, size })
@@ -91,7 +92,7 @@ pub fn translate(
     helpers: [u64; 3],
     output: &mut [u8],
 ) -> Answer {
-    if slot_offset % 8 != 0 || slot_offset > 32_512 {
+    if !slot_offset.is_multiple_of(8) || slot_offset > 32_512 {
         return refused(1);
     }
     let slot_offset = slot_offset as u16;

@@ -1,6 +1,8 @@
 //! emuko's own translator, built from its source text, behind document 01's operations.
 
+pub mod draw;
 mod emuko;
+pub mod marked;
 pub mod program;
 pub mod random;
 pub mod record;

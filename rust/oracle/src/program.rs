@@ -1,5 +1,6 @@
 //! Document 01's program: standard input in, lines out.
 
+use crate::marked::HELPERS;
 use crate::{translate, words, LONGEST};
 
 pub fn run(input: &[u8]) -> String {
@@ -11,8 +12,7 @@ pub fn run(input: &[u8]) -> String {
     let guest = &input[13..];
     let guest = &guest[..guest.len().min(256)];
     let mut output = [0; LONGEST];
-    let helpers = [0x10000, 0x20000, 0x30000];
-    let answer = translate(guest, pc, limit, input[12] != 0, 0, helpers, &mut output);
+    let answer = translate(guest, pc, limit, input[12] != 0, 0, HELPERS, &mut output);
     if answer.refusal != 0 {
         return format!("refused {}\n", answer.refusal);
     }

@@ -1,5 +1,6 @@
 //! Document 01's "How a block is read" and "Place", read a second time and compared with the Rust.
 
+use crate::marked::HELPERS;
 use crate::random::Random;
 use crate::{place, translate, Answer, LONGEST};
 
@@ -35,7 +36,7 @@ pub fn class16(instr: u16, ignore_ebreak: bool) -> Class {
         (1, 1) => inline(rd != 0),
         (1, 3) => inline(rd != 0 && !zero6),
         (1, 4) => inline(!(instr >> 10 & 3 == 3 && bit12 == 1 && instr >> 6 & 1 == 1)),
-        (1, 5 | 6 | 7) => Class::Ends,
+        (1, 5..=7) => Class::Ends,
         (2, 0) => inline(rd != 0),
         (2, 4) if rs2 != 0 => inline(rd != 0),
         (2, 4) if rd != 0 => Class::Ends,
@@ -145,11 +146,12 @@ pub fn ask(case: &Case, output: &mut [u8]) -> Answer {
 pub fn compare(case: &Case) -> Result<Answer, String> {
     let mut output = vec![FILL; case.room];
     let answer = ask(case, &mut output);
-    let (refusal, count, helper) = if case.slot_offset % 8 != 0 || case.slot_offset > 32_512 {
-        (1, 0, 0)
-    } else {
-        walk(&case.guest, case.pc, case.limit, case.ignore_ebreak)
-    };
+    let (refusal, count, helper) =
+        if !case.slot_offset.is_multiple_of(8) || case.slot_offset > 32_512 {
+            (1, 0, 0)
+        } else {
+            walk(&case.guest, case.pc, case.limit, case.ignore_ebreak)
+        };
     let length = answer.length as usize;
     let good = if answer.refusal == 6 && refusal == 0 {
         let mut longest = vec![FILL; LONGEST];
@@ -159,7 +161,7 @@ pub fn compare(case: &Case) -> Result<Answer, String> {
         answer == Answer { refusal, ..Answer::default() }
     } else {
         (refusal, count, helper) == (0, answer.count, answer.helper)
-            && length % 4 == 0
+            && length.is_multiple_of(4)
             && length <= LONGEST
             && output[..length].ends_with(&RET)
     };
@@ -171,7 +173,7 @@ pub fn compare(case: &Case) -> Result<Answer, String> {
 }
 
 fn short(guest: Vec<u8>, limit: u32, ignore_ebreak: bool) -> Case {
-    let (pc, slot_offset, helpers) = (0x1000, 0, [0x10000, 0x20000, 0x30000]);
+    let (pc, slot_offset, helpers) = (0x1000, 0, HELPERS);
     Case { guest, pc, limit, ignore_ebreak, slot_offset, helpers, room: LONGEST }
 }
 
@@ -219,7 +221,7 @@ fn places(wrong: &mut Vec<String>) -> usize {
                 let code: Vec<u8> = (1..=length as u8).collect();
                 let mut store = vec![FILL; size];
                 let answer = place(&mut store, used, &code);
-                let start = (u128::from(used) + 3) / 4 * 4;
+                let start = u128::from(used).next_multiple_of(4);
                 let end = start + length as u128;
                 let mut expected = vec![FILL; size];
                 let numbers = if u128::from(used) > size as u128 {

@@ -22,6 +22,34 @@ pub const FAULT: u32 = 4;
 pub const RETURNED: u32 = 5;
 pub const CALLED: u32 = 6;
 
+/// The 24 forms: which bits are fixed, and their values.
+pub const FORMS: [(u32, u32); 24] = [
+    (0xFFC0_0000, 0xF940_0000), // LDR
+    (0xFFC0_0000, 0xF900_0000), // STR
+    (0xFFE0_FC00, 0x8B00_0000), // ADD
+    (0xFFE0_FC00, 0xCB00_0000), // SUB
+    (0xFFE0_FC00, 0x8A00_0000), // AND
+    (0xFFE0_FC00, 0xAA00_0000), // ORR
+    (0xFFE0_FC00, 0xCA00_0000), // EOR
+    (0xFFE0_FC00, 0x9AC0_2000), // LSLV
+    (0xFFE0_FC00, 0x9AC0_2400), // LSRV
+    (0xFFE0_FC00, 0x9AC0_2800), // ASRV
+    (0xFFE0_FC00, 0x9B00_7C00), // MUL
+    (0xFFE0_FC00, 0x9B40_7C00), // SMULH
+    (0xFFE0_FC00, 0x9BC0_7C00), // UMULH
+    (0xFFE0_FC00, 0x9AC0_0800), // UDIV
+    (0xFFE0_FC00, 0x9AC0_0C00), // SDIV
+    (0xFFE0_FC1F, 0xEB00_001F), // CMP
+    (0xFFE0_0C00, 0x9A80_0000), // CSEL
+    (0xFFFF_FC00, 0x9340_7C00), // SXTW
+    (0xFFC0_03FF, 0x9100_03FF), // ADD SP
+    (0xFFC0_03FF, 0xD100_03FF), // SUB SP
+    (0xFF80_0000, 0xD280_0000), // MOVZ
+    (0xFF80_0000, 0xF280_0000), // MOVK
+    (0xFFFF_FC1F, 0xD63F_0000), // BLR
+    (0xFFFF_FFFF, 0xD65F_03C0), // RET
+];
+
 /// Runs the block from word 0. `address` is that of word 0, `base` that of the memory's first byte.
 pub fn a64_run(
     block: &[u8],
@@ -218,34 +246,6 @@ mod tests {
         assert_eq!(a64_run(&[], 0, &mut state, 9, &mut memory, u64::MAX - 15), end);
         assert_eq!((state.nzcv, memory), (15, [9; 16]));
     }
-
-    /// The 24 forms: fixed bits and their values.
-    const FORMS: [(u32, u32); 24] = [
-        (0xFFC0_0000, 0xF940_0000), // LDR
-        (0xFFC0_0000, 0xF900_0000), // STR
-        (0xFFE0_FC00, 0x8B00_0000), // ADD
-        (0xFFE0_FC00, 0xCB00_0000), // SUB
-        (0xFFE0_FC00, 0x8A00_0000), // AND
-        (0xFFE0_FC00, 0xAA00_0000), // ORR
-        (0xFFE0_FC00, 0xCA00_0000), // EOR
-        (0xFFE0_FC00, 0x9AC0_2000), // LSLV
-        (0xFFE0_FC00, 0x9AC0_2400), // LSRV
-        (0xFFE0_FC00, 0x9AC0_2800), // ASRV
-        (0xFFE0_FC00, 0x9B00_7C00), // MUL
-        (0xFFE0_FC00, 0x9B40_7C00), // SMULH
-        (0xFFE0_FC00, 0x9BC0_7C00), // UMULH
-        (0xFFE0_FC00, 0x9AC0_0800), // UDIV
-        (0xFFE0_FC00, 0x9AC0_0C00), // SDIV
-        (0xFFE0_FC1F, 0xEB00_001F), // CMP
-        (0xFFE0_0C00, 0x9A80_0000), // CSEL
-        (0xFFFF_FC00, 0x9340_7C00), // SXTW
-        (0xFFC0_03FF, 0x9100_03FF), // ADD SP
-        (0xFFC0_03FF, 0xD100_03FF), // SUB SP
-        (0xFF80_0000, 0xD280_0000), // MOVZ
-        (0xFF80_0000, 0xF280_0000), // MOVK
-        (0xFFFF_FC1F, 0xD63F_0000), // BLR
-        (0xFFFF_FFFF, 0xD65F_03C0), // RET
-    ];
 
     /// Each form with many fields, and the words one or two bits away.
     #[test]

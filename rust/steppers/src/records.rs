@@ -23,21 +23,34 @@ pub struct A64Case {
     pub answer: A64Answer,
 }
 
-struct Reader<'a>(&'a [u8]);
+/// A recorded file from where it is read on. Each method panics where the file is too short.
+pub struct Reader<'a>(pub &'a [u8]);
 
 impl Reader<'_> {
-    fn bytes(&mut self, length: usize) -> Vec<u8> {
+    pub fn bytes(&mut self, length: usize) -> Vec<u8> {
         let (front, rest) = self.0.split_at(length);
         self.0 = rest;
         front.to_vec()
     }
 
-    fn u8(&mut self) -> u8 {
-        self.bytes(1)[0]
+    fn array<const N: usize>(&mut self) -> [u8; N] {
+        self.bytes(N).try_into().unwrap()
     }
 
-    fn u64(&mut self) -> u64 {
-        u64::from_le_bytes(self.bytes(8).try_into().unwrap())
+    pub fn u8(&mut self) -> u8 {
+        self.array::<1>()[0]
+    }
+
+    pub fn u16(&mut self) -> u16 {
+        u16::from_le_bytes(self.array())
+    }
+
+    pub fn u32(&mut self) -> u32 {
+        u32::from_le_bytes(self.array())
+    }
+
+    pub fn u64(&mut self) -> u64 {
+        u64::from_le_bytes(self.array())
     }
 
     /// [number u8]{register u8, value u64}*number
@@ -48,9 +61,10 @@ impl Reader<'_> {
         }
     }
 
-    fn header(&mut self, magic: &[u8; 8]) -> u32 {
+    /// The magic, then the number of cases.
+    pub fn header(&mut self, magic: &[u8; 8]) -> u32 {
         assert_eq!(self.bytes(8), magic);
-        u32::from_le_bytes(self.bytes(4).try_into().unwrap())
+        self.u32()
     }
 }
 

@@ -19,8 +19,10 @@ fn main() {
     };
     println!("cargo:rerun-if-changed={}", library.display());
     let folder = PathBuf::from(env::var("OUT_DIR").unwrap());
-    fs::copy(&library, folder.join("libhilofanur.a"))
-        .unwrap_or_else(|error| panic!("{}: {error}", library.display()));
+    let copy = folder.join("libhilofanur.a");
+    fs::copy(&library, &copy).unwrap_or_else(|error| panic!("{}: {error}", library.display()));
     println!("cargo:rustc-link-search=native={}", folder.display());
     println!("cargo:rustc-link-lib=static=hilofanur");
+    // The header's test links the same library from C.
+    println!("cargo:rustc-env=HILOFANUR_LINKED={}", copy.display());
 }

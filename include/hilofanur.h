@@ -1,0 +1,108 @@
+/* Hilofanur: RV64 guest blocks in, A64 words out. For libhilofanur.a on x86-64.
+ *
+ * Each function answers by a struct. Its refusal is 0 where the call was accepted; else it is the lowest number that
+ * applies, the answer's other numbers are 0 and every lent byte is as it was:
+ *
+ *    1  slot offset not a multiple of 8 or above 32,512
+ *    2  limit 0
+ *    3  odd PC
+ *    4  the first instruction lacks a halfword
+ *    5  the first instruction is neither inline nor helper (RV64 run: not inline)
+ *    6  the output is shorter than the block's bytes
+ *    7  used exceeds the store
+ *    8  the start plus the code length exceeds the store
+ *    9  register 0 not zero
+ *   10  block length not a multiple of 4
+ *   11  memory base plus memory length exceeds 2^64
+ *
+ * Bytes are lent by a pointer and their number. A pointer is never null, even where the number is 0; it needs no
+ * alignment. Bytes that a call may write overlap no others that it is lent. No pointer is kept after the call, no
+ * state is kept between calls, and every call ends.
+ */
+#ifndef HILOFANUR_H
+#define HILOFANUR_H
+
+#include <stdbool.h>
+#include <stddef.h>
+#include <stdint.h>
+
+#ifdef __cplusplus
+extern "C" {
+#endif
+
+/* The bytes of the longest block: 1,862 words. */
+#define HILOFANUR_LONGEST_BLOCK 7448
+/* 32 registers of 8 bytes. */
+#define HILOFANUR_REGISTERS 256
+/* X0 to X30, SP and NZCV, 8 bytes each. */
+#define HILOFANUR_STATE 264
+
+struct hilofanur_translate_answer {
+    uint32_t refusal;
+    uint32_t length; /* the block's bytes */
+    uint32_t count;  /* its guest instructions */
+    uint32_t helper; /* 1 where a helper ended it, else 0 */
+};
+
+/* Translate: the block that starts at pc, written at the front of output; the rest of output stays.
+ *
+ * guest: little-endian halfwords, the first at pc. limit: the most instructions; above 64 it counts as 64.
+ * ignore_ebreak: C.EBREAK does nothing. slot_offset: register n has its slot at X0 plus slot_offset plus 8n.
+ * memory_helper, helper32, helper16: the addresses that the block calls for loads and stores of 32 bits, for other
+ * helper instructions of 32 bits, and for those of 16 bits. Refusals 1 to 6.
+ */
+struct hilofanur_translate_answer hilofanur_translate(
+    const uint8_t *guest, size_t guest_length, uint64_t pc, uint32_t limit, bool ignore_ebreak, uint64_t slot_offset,
+    uint64_t memory_helper, uint64_t helper32, uint64_t helper16, uint8_t *output, size_t output_length);
+
+struct hilofanur_place_answer {
+    uint64_t refusal;
+    uint64_t start; /* where the code starts in the store */
+    uint64_t used;  /* how much of the store is then used */
+};
+
+/* Place: copies code into store at used, rounded up to a multiple of 4; other bytes stay. Refusals 7 and 8. */
+struct hilofanur_place_answer hilofanur_place(
+    uint8_t *store, size_t store_length, uint64_t used, const uint8_t *code, size_t code_length);
+
+struct hilofanur_rv64_run_answer {
+    uint32_t refusal;
+    uint32_t count;   /* the instructions done */
+    uint64_t next_pc; /* the PC behind them */
+};
+
+/* RV64 run: does the guest's block on the registers, as the ISA says. It stops where translation would, and before a
+ * helper instruction. registers: HILOFANUR_REGISTERS bytes, each register little-endian. Refusals 2 to 5 and 9.
+ */
+struct hilofanur_rv64_run_answer hilofanur_rv64_run(
+    const uint8_t *guest, size_t guest_length, uint64_t pc, uint32_t limit, bool ignore_ebreak, uint8_t *registers);
+
+enum hilofanur_end {
+    HILOFANUR_OFF_THE_END = 1,
+    HILOFANUR_SPENT = 2,      /* the budget is used */
+    HILOFANUR_UNREADABLE = 3, /* a word outside the 24 forms */
+    HILOFANUR_FAULT = 4,
+    HILOFANUR_RETURNED = 5, /* RET */
+    HILOFANUR_CALLED = 6    /* BLR, with the next word's address in X30 */
+};
+
+struct hilofanur_a64_run_answer {
+    uint32_t refusal;
+    uint32_t end; /* enum hilofanur_end, 0 where refused */
+    uint64_t steps;
+};
+
+/* A64 run: does the words of block, which stand at address, as the Arm manual says, at most budget of them.
+ *
+ * state: HILOFANUR_STATE bytes, each number little-endian; of NZCV the low four bits, N highest. memory: bytes, the
+ * first at base. Refusals 10 and 11.
+ */
+struct hilofanur_a64_run_answer hilofanur_a64_run(
+    const uint8_t *block, size_t block_length, uint64_t address, uint8_t *state, uint64_t budget, uint8_t *memory,
+    size_t memory_length, uint64_t base);
+
+#ifdef __cplusplus
+}
+#endif
+
+#endif

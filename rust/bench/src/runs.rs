@@ -1,0 +1,130 @@
+//! The two runs beside the plain steppers.
+
+use crate::inputs::{a64_block, rv64_block, BASE, MEMORY, MIDDLE};
+use crate::{row, SEED};
+use hilofanur::{boundary, Guest, Registers};
+use oracle::random::Random;
+use std::hint::black_box;
+use steppers::{a64_run, rv64_run, A64Answer, A64State, Rv64Answer};
+
+pub fn rows() {
+    rv64(64, 256);
+    rv64(8, 2048);
+    rv64(64, 4);
+    rv64(8, 4);
+    a64(400, 40);
+    a64(16, 1024);
+    a64(400, 1);
+    a64(16, 4);
+    no_word();
+    one_nop();
+}
+
+fn registers(random: &mut Random) -> [u64; 32] {
+    let mut registers = std::array::from_fn(|_| random.next());
+    registers[0] = 0;
+    registers
+}
+
+fn state_bytes(state: &A64State) -> [u8; 264] {
+    hilofanur::A64State { x: state.x, sp: state.sp, nzcv: state.nzcv }.to_bytes()
+}
+
+fn proved_rv64(bytes: &[u8], registers: &mut [u8; 256]) -> Rv64Answer {
+    let guest = Guest { bytes, pc: 0x1000, limit: 64, ignore_ebreak: false };
+    let a = boundary::rv64_run(&guest, registers);
+    Rv64Answer { refusal: a.refusal, count: a.count, next_pc: a.next_pc }
+}
+
+fn plain_rv64(block: &[u8], registers: &mut [u64; 32]) -> Rv64Answer {
+    rv64_run(block, 0x1000, 64, false, registers)
+}
+
+/// Blocks of `length` instructions, so many of them, in turn.
+fn rv64(length: usize, number: usize) {
+    let mut random = Random(SEED);
+    let blocks: Vec<Vec<u8>> = (0..number).map(|_| rv64_block(&mut random, length)).collect();
+    let mut plain = registers(&mut random);
+    let mut bytes = Registers { x: plain }.to_bytes();
+    for block in &blocks {
+        let (mut plain, mut bytes) = (plain, bytes);
+        let answer = plain_rv64(block, &mut plain);
+        assert_eq!(answer.count as usize, length);
+        assert_eq!(answer, proved_rv64(block, &mut bytes));
+        assert_eq!(bytes, Registers { x: plain }.to_bytes());
+    }
+    row(
+        &format!("RV64 run, {number} blocks of {length}"),
+        (length, "instruction"),
+        &blocks,
+        |block| proved_rv64(block, &mut bytes),
+        |block| plain_rv64(block, &mut plain),
+    );
+}
+
+fn proved_a64(block: &[u8], state: &mut [u8; 264], memory: &mut [u8]) -> A64Answer {
+    let a = boundary::a64_run(block, 0, state, u64::MAX, memory, BASE);
+    A64Answer { refusal: a.refusal, end: a.end, steps: a.steps }
+}
+
+fn plain_a64(block: &[u8], state: &mut A64State, memory: &mut [u8]) -> A64Answer {
+    a64_run(block, 0, state, u64::MAX, memory, BASE)
+}
+
+/// Straight runs of `length` words, so many of them, in turn.
+fn a64(length: usize, number: usize) {
+    let mut random = Random(SEED);
+    let blocks: Vec<Vec<u8>> = (0..number).map(|_| a64_block(&mut random, length)).collect();
+    let mut start = A64State { x: std::array::from_fn(|_| random.next()), sp: MIDDLE, nzcv: 0 };
+    start.x[0] = MIDDLE;
+    let start_bytes = state_bytes(&start);
+    let mut memory = random.bytes(MEMORY);
+    let mut plain_memory = memory.clone();
+    for block in &blocks {
+        let (mut plain, mut bytes) = (start, start_bytes);
+        let answer = plain_a64(block, &mut plain, &mut plain_memory);
+        assert_eq!((answer.end, answer.steps), (steppers::RETURNED, length as u64));
+        assert_eq!(answer, proved_a64(block, &mut bytes, &mut memory));
+        assert_eq!(bytes, state_bytes(&plain));
+        assert!(memory == plain_memory);
+    }
+    row(
+        &format!("A64 run, {number} runs of {length}"),
+        (length, "word"),
+        &blocks,
+        |block| {
+            let mut bytes = start_bytes;
+            (proved_a64(block, &mut bytes, &mut memory), bytes)
+        },
+        |block| {
+            let mut plain = start;
+            (plain_a64(block, &mut plain, &mut plain_memory), plain)
+        },
+    );
+}
+
+/// What an A64 run costs that runs nothing.
+fn no_word() {
+    let mut state = A64State { x: [7; 31], sp: 0, nzcv: 0 };
+    let mut bytes = state_bytes(&state);
+    row(
+        "A64 run, no word",
+        (1, "call"),
+        &[()],
+        |()| proved_a64(black_box(&[]), &mut bytes, &mut []),
+        |()| plain_a64(black_box(&[]), &mut state, &mut []),
+    );
+}
+
+/// What an RV64 run costs that does nothing.
+fn one_nop() {
+    let mut plain = registers(&mut Random(SEED));
+    let mut bytes = Registers { x: plain }.to_bytes();
+    row(
+        "RV64 run, one C.NOP",
+        (1, "call"),
+        &[()],
+        |()| proved_rv64(black_box(&[1, 0]), &mut bytes),
+        |()| plain_rv64(black_box(&[1, 0]), &mut plain),
+    );
+}

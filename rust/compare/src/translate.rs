@@ -1,0 +1,79 @@
+//! Translate against `compile_native_block`: refusals, words, count, helper mark, and the output behind the block.
+
+use crate::draw::{question, Guests};
+use crate::Compared;
+use hilofanur::boundary;
+use oracle::random::Random;
+use oracle::rules::{ask, Case};
+use oracle::{Answer, LONGEST};
+
+pub struct Translate {
+    guests: Guests,
+    /// The Rust's block.
+    block: Vec<u8>,
+    /// What the library's output holds before each call.
+    fill: Vec<u8>,
+    output: Vec<u8>,
+}
+
+impl Translate {
+    pub fn new() -> Translate {
+        let fill = Random(0).bytes(LONGEST + 64);
+        let (guests, block, output) = (Guests::new(), vec![0; LONGEST], fill.clone());
+        Translate { guests, block, fill, output }
+    }
+
+    /// The library's answer, and whether the output is `length` bytes of the Rust's block and then as it was.
+    fn ask(&mut self, case: &Case, length: usize) -> (Answer, bool) {
+        let (guest, host) = question(case);
+        let a = boundary::translate(&guest, &host, &mut self.output[..case.room]);
+        let same = self.output[..length] == self.block[..length]
+            && self.output[length..] == self.fill[length..];
+        let written = if same { length } else { self.output.len() };
+        self.output[..written].copy_from_slice(&self.fill[..written]);
+        (Answer { refusal: a.refusal, length: a.length, count: a.count, helper: a.helper }, same)
+    }
+}
+
+/// The output bytes offered for a block of so many: exactly enough, one less, any number.
+fn room(random: &mut Random, length: usize) -> usize {
+    match random.below(16) {
+        0..=5 => length,
+        6 => length.max(1) - 1,
+        7 => random.below(length + 1),
+        8 => length + 1 + random.below(16),
+        _ => LONGEST,
+    }
+}
+
+impl Compared for Translate {
+    const NAME: &'static str = "translate";
+    const OUTCOMES: &'static [&'static str] = &[
+        "accepted",
+        "refused 1",
+        "refused 2",
+        "refused 3",
+        "refused 4",
+        "refused 5",
+        "refused 6",
+        "accepted with a helper",
+    ];
+
+    fn compare(&mut self, random: &mut Random) -> Result<usize, String> {
+        let mut case = self.guests.case(random);
+        let whole = ask(&case, &mut self.block);
+        case.room = room(random, whole.length as usize);
+        let expected = if case.room < whole.length as usize {
+            Answer { refusal: 6, ..Answer::default() }
+        } else {
+            whole
+        };
+        let (answer, same) = self.ask(&case, expected.length as usize);
+        if answer != expected || !same {
+            return Err(format!(
+                "{case:x?}: {answer:?}, the Rust {expected:?}, output the same: {same}"
+            ));
+        }
+        Ok(if expected.helper == 1 { 7 } else { expected.refusal as usize })
+    }
+}

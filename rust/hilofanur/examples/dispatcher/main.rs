@@ -1,0 +1,208 @@
+//! A dispatcher: runs an RV64 program block by block, as A64 words and beside them as the ISA says, and compares.
+//!
+//! `dispatcher [FILE [ENTRY [BASE]]]`: an ELF64 file, or a raw binary that goes to BASE; numbers in hexadecimal.
+//! Without a file it takes examples/centroid/centroid.
+//!
+//! A block is translated, placed and then run by the library's A64 run, which stands in for the Arm processor.
+//! A block that ends in a helper instruction runs up to its call; the dispatcher compares the call's arguments,
+//! does the load or store itself and goes on at the next PC with a new block, so the words behind the call stay unused.
+//! ECALL ends a block too: `write` (64) is served, `exit` (93) ends the program, and so does EBREAK.
+
+mod code;
+mod host;
+mod image;
+mod memory;
+
+use code::Code;
+use hilofanur::{Block, Guest, Refusal, Registers};
+use host::{instruction, Done, HostSide};
+use image::Image;
+use memory::{Access, Memory};
+use std::path::Path;
+use std::process::ExitCode;
+
+const CENTROID: &str = concat!(env!("CARGO_MANIFEST_DIR"), "/examples/centroid/centroid");
+/// Where a raw binary goes.
+const RAW: u64 = 0x1_0000;
+const LIMIT: u32 = 64;
+/// Bytes of 64 instructions.
+const WINDOW: usize = 256;
+/// New blocks that get a line, and after how many runs a line tells how far it is.
+const LINES: u64 = 8;
+const OFTEN: u64 = 5_000;
+
+/// What has been counted.
+#[derive(Default)]
+struct Counts {
+    /// Blocks run, guest instructions and A64 words done in them.
+    runs: u64,
+    instructions: u64,
+    words: u64,
+    /// Blocks that returned, and those that called for a load or a store.
+    returned: u64,
+    loads: u64,
+    stores: u64,
+    ecalls: u64,
+    differences: u64,
+}
+
+/// The guest and its blocks.
+struct Dispatcher {
+    memory: Memory,
+    registers: Registers,
+    pc: u64,
+    code: Code,
+    host: HostSide,
+    counts: Counts,
+}
+
+/// How a program goes on behind an ECALL or EBREAK.
+enum Flow {
+    Next,
+    Ended(u64),
+}
+
+impl Dispatcher {
+    fn new(image: Image) -> Dispatcher {
+        let mut registers = Registers::default();
+        registers.x[2] = (image.memory.base + image.memory.bytes.len() as u64 - 16) & !15;
+        Dispatcher {
+            memory: image.memory,
+            registers,
+            pc: image.entry,
+            code: Code::new(),
+            host: HostSide::new(),
+            counts: Counts::default(),
+        }
+    }
+
+    /// Runs the program to its end: its exit status.
+    fn run(&mut self) -> Result<u64, String> {
+        loop {
+            let bytes = self.memory.from(self.pc, WINDOW).to_vec();
+            let guest = Guest { bytes: &bytes, pc: self.pc, limit: LIMIT, ignore_ebreak: false };
+            let translated = self.code.translated;
+            match self.code.block(&guest) {
+                Ok((start, block)) => {
+                    if self.code.translated > translated && translated < LINES {
+                        print_block(self.pc, &block);
+                    }
+                    let words = self.code.words(start, block.length);
+                    let done = self.host.run(&guest, block, words, &self.registers)?;
+                    self.take(&guest, block.helper, done)?;
+                }
+                Err(Refusal::NotCovered) => match self.system(instruction(&guest, self.pc))? {
+                    Flow::Next => self.pc = self.pc.wrapping_add(4),
+                    Flow::Ended(status) => return Ok(status),
+                },
+                Err(refusal) => return Err(format!("translate at {:x}: {refusal}", self.pc)),
+            }
+        }
+    }
+
+    /// Takes over what a block did, and does the helper's instruction behind it.
+    fn take(&mut self, guest: &Guest, helper: bool, done: Done) -> Result<(), String> {
+        self.registers = done.registers;
+        self.pc = done.pc;
+        for difference in &done.differences {
+            println!("  DIFFERENCE {difference}");
+        }
+        let counts = &mut self.counts;
+        counts.runs += 1;
+        counts.instructions += u64::from(done.instructions);
+        counts.words += done.steps;
+        counts.differences += done.differences.len() as u64;
+        if counts.runs.is_multiple_of(OFTEN) {
+            let Counts { runs, instructions, differences, .. } = counts;
+            println!("  {runs} blocks run, {instructions} instructions, {differences} differences");
+        }
+        if helper {
+            return self.serve(instruction(guest, self.pc));
+        }
+        counts.returned += 1;
+        Ok(())
+    }
+
+    /// Does the load or store at the PC.
+    fn serve(&mut self, instr: u32) -> Result<(), String> {
+        let error = |text: &str| format!("{instr:x} at {:x}: {text}", self.pc);
+        let access = Access::decode(instr, &self.registers).ok_or(error("not served"))?;
+        access.serve(&mut self.memory, &mut self.registers).map_err(|text| error(&text))?;
+        self.pc = self.pc.wrapping_add(access.length);
+        if access.store {
+            self.counts.stores += 1;
+        } else {
+            self.counts.loads += 1;
+        }
+        Ok(())
+    }
+
+    /// ECALL and EBREAK, which no block covers.
+    fn system(&mut self, instr: u32) -> Result<Flow, String> {
+        let x = &mut self.registers.x;
+        self.counts.ecalls += u64::from(instr == 0x73);
+        match (instr, x[17]) {
+            (0x73, 64) => {
+                let text = self.memory.from(x[11], x[12] as usize);
+                print!("guest: {}", String::from_utf8_lossy(text));
+                x[10] = text.len() as u64;
+                Ok(Flow::Next)
+            }
+            (0x73, 93) => Ok(Flow::Ended(x[10])),
+            (0x73 | 0x10_0073 | 0x9002, _) => Ok(Flow::Ended(0)),
+            _ => Err(format!("{instr:x} at {:x} is not covered", self.pc)),
+        }
+    }
+
+    fn summary(&self) {
+        let Counts { runs, instructions, words, returned, loads, stores, ecalls, differences } =
+            self.counts;
+        let called = loads + stores;
+        println!("blocks: {} translated into {} words", self.code.translated, self.code.words);
+        println!("run: {runs} blocks, {instructions} guest instructions, {words} A64 words");
+        println!(
+            "stops: {returned} returned, {called} called ({loads} loads, {stores} stores), {ecalls} ecall"
+        );
+        println!("differences: {differences}");
+    }
+}
+
+fn print_block(pc: u64, block: &Block) {
+    let (count, words) = (block.count, block.length / 4);
+    let last = if block.helper { ", the last by a helper" } else { "" };
+    println!("  block at {pc:x}: {count} guest instructions, {words} words{last}");
+}
+
+fn hexadecimal(text: &str) -> Result<u64, String> {
+    let digits = text.strip_prefix("0x").unwrap_or(text);
+    u64::from_str_radix(digits, 16).map_err(|_| format!("{text} is no hexadecimal number"))
+}
+
+/// True if the program ended with status 0 and nothing differed.
+fn dispatch(arguments: &[String]) -> Result<bool, String> {
+    let mut arguments = arguments.iter();
+    let path = arguments.next().map_or(CENTROID, String::as_str);
+    let entry = arguments.next().map(|text| hexadecimal(text)).transpose()?;
+    let base = arguments.next().map_or(Ok(RAW), |text| hexadecimal(text))?;
+    let file = std::fs::read(path).map_err(|error| format!("{path}: {error}"))?;
+    let mut dispatcher = Dispatcher::new(Image::load(&file, entry, base)?);
+    let name = Path::new(path).file_name().unwrap_or_default().to_string_lossy();
+    println!("{name}, entry {:x}", dispatcher.pc);
+    let ended = dispatcher.run();
+    dispatcher.summary();
+    let status = ended?;
+    println!("exit status of the guest: {status}");
+    Ok(status == 0 && dispatcher.counts.differences == 0)
+}
+
+fn main() -> ExitCode {
+    let arguments: Vec<String> = std::env::args().skip(1).collect();
+    match dispatch(&arguments) {
+        Ok(true) => ExitCode::SUCCESS,
+        Ok(false) => ExitCode::FAILURE,
+        Err(error) => {
+            eprintln!("dispatcher: {error}");
+            ExitCode::FAILURE
+        }
+    }
+}

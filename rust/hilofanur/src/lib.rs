@@ -1,0 +1,172 @@
+//! RV64 guest blocks in, A64 words out: the proved library behind a safe interface.
+//!
+//! The four operations are document 01's. Each is accepted, or refused by number with every lent byte unchanged.
+//!
+//! ```
+//! use hilofanur::{a64_run, place, rv64_run, translate, A64State, End, Guest, Host, Refusal, Registers};
+//!
+//! // c.li x10, -1 at 0x1000
+//! let guest = Guest { bytes: &[0x7d, 0x55], pc: 0x1000, limit: 64, ignore_ebreak: false };
+//! let host = Host { slot_offset: 0, memory_helper: 0x10000, helper32: 0x20000, helper16: 0x30000 };
+//! let mut output = [0; hilofanur::LONGEST_BLOCK];
+//! let block = translate(&guest, &host, &mut output)?;
+//! assert_eq!((block.length, block.count, block.helper), (32, 1, false));
+//!
+//! let mut store = vec![0; 4096];
+//! let placed = place(&mut store, 0, &output[..block.length])?;
+//! let words = &store[placed.start..placed.used];
+//!
+//! // The slots of the 32 registers are the whole memory, X0 points to slot 0.
+//! let mut slots = Registers::default().to_bytes();
+//! let mut state = A64State::default();
+//! state.x[0] = 0x8000;
+//! let run = a64_run(words, 0x4_0000, &mut state, 100, &mut slots, 0x8000)?;
+//! assert_eq!((run.end, run.steps), (End::Returned, 8));
+//!
+//! // The ISA says the same of the guest.
+//! let mut registers = Registers::default();
+//! let ran = rv64_run(&guest, &mut registers)?;
+//! assert_eq!((state.x[0], state.x[1]), (ran.next_pc, ran.count.into()));
+//! assert_eq!(slots, registers.to_bytes());
+//! assert_eq!(registers.x[10], u64::MAX);
+//!
+//! let odd = Guest { pc: 0x1001, ..guest };
+//! assert_eq!(translate(&odd, &host, &mut output), Err(Refusal::OddPc));
+//! # Ok::<(), Refusal>(())
+//! ```
+
+#![deny(unsafe_code)]
+#![warn(missing_docs)]
+
+pub mod boundary;
+mod refusal;
+mod state;
+
+pub use refusal::Refusal;
+pub use state::{A64State, End, Registers};
+
+/// The bytes of the longest block: 1,862 words.
+pub const LONGEST_BLOCK: usize = 4 * 1_862;
+
+/// The guest's code and how far a block may go.
+#[derive(Clone, Copy, Debug)]
+pub struct Guest<'a> {
+    /// Little-endian halfwords, the first at `pc`; a lone last byte is no halfword.
+    pub bytes: &'a [u8],
+    /// The PC of the first instruction.
+    pub pc: u64,
+    /// The most instructions; above 64 it counts as 64.
+    pub limit: u32,
+    /// C.EBREAK does nothing.
+    pub ignore_ebreak: bool,
+}
+
+/// What a block has to know of its host.
+#[derive(Clone, Copy, Debug, PartialEq, Eq)]
+pub struct Host {
+    /// Register n has its slot at X0 plus this plus 8n. A multiple of 8, at most 32,512.
+    pub slot_offset: u64,
+    /// The address of the helper for loads and stores of 32 bits.
+    pub memory_helper: u64,
+    /// The address of the helper for other instructions of 32 bits.
+    pub helper32: u64,
+    /// The address of the helper for instructions of 16 bits.
+    pub helper16: u64,
+}
+
+/// A translated block.
+#[derive(Clone, Copy, Debug, PartialEq, Eq)]
+pub struct Block {
+    /// Its bytes, at the front of the output.
+    pub length: usize,
+    /// The guest instructions in it; a helper instruction counts.
+    pub count: u32,
+    /// A helper instruction ended it.
+    pub helper: bool,
+}
+
+/// Where code was placed.
+#[derive(Clone, Copy, Debug, PartialEq, Eq)]
+pub struct Placed {
+    /// The code's first byte in the store.
+    pub start: usize,
+    /// How much of the store is then used.
+    pub used: usize,
+}
+
+/// What an RV64 run did.
+#[derive(Clone, Copy, Debug, PartialEq, Eq)]
+pub struct Rv64Run {
+    /// The instructions done.
+    pub count: u32,
+    /// The PC behind them.
+    pub next_pc: u64,
+}
+
+/// What an A64 run did.
+#[derive(Clone, Copy, Debug, PartialEq, Eq)]
+pub struct A64Run {
+    /// How it ended.
+    pub end: End,
+    /// The words done.
+    pub steps: u64,
+}
+
+/// Translate: writes the block at the front of `output`, whose other bytes stay.
+///
+/// # Errors
+/// Refusals 1 to 6.
+pub fn translate(guest: &Guest, host: &Host, output: &mut [u8]) -> Result<Block, Refusal> {
+    let answer = boundary::translate(guest, host, output);
+    accepted(answer.refusal)?;
+    Ok(Block { length: answer.length as usize, count: answer.count, helper: answer.helper != 0 })
+}
+
+/// Place: copies `code` into `store` at `used`, rounded up to a multiple of 4; other bytes stay.
+///
+/// # Errors
+/// Refusals 7 and 8.
+pub fn place(store: &mut [u8], used: usize, code: &[u8]) -> Result<Placed, Refusal> {
+    let answer = boundary::place(store, used as u64, code);
+    accepted(answer.refusal as u32)?;
+    Ok(Placed { start: answer.start as usize, used: answer.used as usize })
+}
+
+/// RV64 run: does the guest's block on `registers`, as the ISA says, up to a helper instruction.
+///
+/// # Errors
+/// Refusals 2 to 5 and 9.
+pub fn rv64_run(guest: &Guest, registers: &mut Registers) -> Result<Rv64Run, Refusal> {
+    let mut bytes = registers.to_bytes();
+    let answer = boundary::rv64_run(guest, &mut bytes);
+    accepted(answer.refusal)?;
+    *registers = Registers::from_bytes(&bytes);
+    Ok(Rv64Run { count: answer.count, next_pc: answer.next_pc })
+}
+
+/// A64 run: does the words of `block`, which stand at `address`, on `state` and `memory`, whose first byte is at `base`.
+///
+/// # Errors
+/// Refusals 10 and 11.
+pub fn a64_run(
+    block: &[u8],
+    address: u64,
+    state: &mut A64State,
+    budget: u64,
+    memory: &mut [u8],
+    base: u64,
+) -> Result<A64Run, Refusal> {
+    let mut bytes = state.to_bytes();
+    let answer = boundary::a64_run(block, address, &mut bytes, budget, memory, base);
+    accepted(answer.refusal)?;
+    *state = A64State::from_bytes(&bytes);
+    let end = End::from_number(answer.end).expect("the library ends a run as 1 to 6");
+    Ok(A64Run { end, steps: answer.steps })
+}
+
+fn accepted(number: u32) -> Result<(), Refusal> {
+    match number {
+        0 => Ok(()),
+        number => Err(Refusal::from_number(number).expect("the library refuses by 1 to 11")),
+    }
+}

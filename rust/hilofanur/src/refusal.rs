@@ -1,0 +1,96 @@
+//! Document 01's refusals.
+
+use std::error::Error;
+use std::fmt;
+
+/// Why an operation was refused. A refusal leaves every lent byte as it was.
+///
+/// Within an operation the lowest number that applies is given.
+///
+/// ```
+/// use hilofanur::Refusal;
+/// assert_eq!(Refusal::OddPc.number(), 3);
+/// assert_eq!(Refusal::from_number(3), Some(Refusal::OddPc));
+/// assert_eq!(Refusal::OddPc.to_string(), "refused 3: odd PC");
+/// ```
+#[derive(Clone, Copy, Debug, PartialEq, Eq, Hash)]
+pub enum Refusal {
+    /// Translate: the slot offset is not a multiple of 8 or above 32,512.
+    SlotOffset = 1,
+    /// Translate and RV64 run: the limit is 0.
+    LimitZero = 2,
+    /// Translate and RV64 run: the PC is odd.
+    OddPc = 3,
+    /// Translate and RV64 run: the first instruction lacks a halfword.
+    NotFetched = 4,
+    /// Translate: the first instruction is neither inline nor helper; RV64 run: it is not inline.
+    NotCovered = 5,
+    /// Translate: the output is shorter than the block's bytes.
+    OutputShort = 6,
+    /// Place: the used length exceeds the store.
+    UsedExceedsStore = 7,
+    /// Place: the start plus the code length exceeds the store.
+    CodeExceedsStore = 8,
+    /// RV64 run: register 0 is not zero.
+    RegisterZero = 9,
+    /// A64 run: the block length is not a multiple of 4.
+    BlockLength = 10,
+    /// A64 run: the memory base plus the memory length exceeds 2^64.
+    MemoryExceedsTop = 11,
+}
+
+use Refusal::*;
+
+impl Refusal {
+    /// Every refusal, by number.
+    pub const ALL: [Refusal; 11] = [
+        SlotOffset,
+        LimitZero,
+        OddPc,
+        NotFetched,
+        NotCovered,
+        OutputShort,
+        UsedExceedsStore,
+        CodeExceedsStore,
+        RegisterZero,
+        BlockLength,
+        MemoryExceedsTop,
+    ];
+
+    /// Document 01's number, 1 to 11.
+    pub fn number(self) -> u32 {
+        self as u32
+    }
+
+    /// The refusal with this number.
+    pub fn from_number(number: u32) -> Option<Refusal> {
+        Refusal::ALL.into_iter().find(|refusal| refusal.number() == number)
+    }
+
+    /// What the number means, in document 01's words.
+    pub fn meaning(self) -> &'static str {
+        match self {
+            SlotOffset => "slot offset not a multiple of 8 or above 32,512",
+            LimitZero => "limit 0",
+            OddPc => "odd PC",
+            NotFetched => "the first instruction lacks a halfword",
+            NotCovered => {
+                "the first instruction is neither inline nor helper (RV64 run: not inline)"
+            }
+            OutputShort => "the output is shorter than the block's bytes",
+            UsedExceedsStore => "used exceeds the store",
+            CodeExceedsStore => "the start plus the code length exceeds the store",
+            RegisterZero => "register 0 not zero",
+            BlockLength => "block length not a multiple of 4",
+            MemoryExceedsTop => "memory base plus memory length exceeds 2^64",
+        }
+    }
+}
+
+impl fmt::Display for Refusal {
+    fn fmt(&self, f: &mut fmt::Formatter) -> fmt::Result {
+        write!(f, "refused {}: {}", self.number(), self.meaning())
+    }
+}
+
+impl Error for Refusal {}

@@ -1,0 +1,78 @@
+//! The example `dispatcher`, run on the guest program beside it and on short raw binaries; its modules' own tests.
+
+#[allow(dead_code)]
+#[path = "../examples/dispatcher/main.rs"]
+mod example;
+
+use std::path::{Path, PathBuf};
+use std::process::{Command, Output};
+
+const OUTPUT: &str = include_str!("../examples/centroid/output.txt");
+
+fn dispatcher(arguments: &[&str]) -> Output {
+    let deps = std::env::current_exe().unwrap();
+    let example = deps.parent().unwrap().with_file_name("examples").join("dispatcher");
+    Command::new(&example)
+        .args(arguments)
+        .output()
+        .expect("cargo test without a filter builds the example")
+}
+
+fn lines(output: &Output) -> Vec<String> {
+    String::from_utf8_lossy(&output.stdout).lines().map(str::to_string).collect()
+}
+
+/// The same text as under qemu-riscv64, and no difference.
+#[test]
+fn centroid() {
+    let output = dispatcher(&[]);
+    let lines = lines(&output);
+    let guest: Vec<&str> = lines.iter().filter_map(|line| line.strip_prefix("guest: ")).collect();
+    assert_eq!(guest, OUTPUT.lines().collect::<Vec<_>>());
+    assert!(lines.contains(&"differences: 0".to_string()), "{lines:?}");
+    assert_eq!(lines.last().unwrap(), "exit status of the guest: 0");
+    assert!(output.status.success());
+}
+
+fn raw(name: &str, code: &[u32]) -> PathBuf {
+    let path = Path::new(env!("CARGO_TARGET_TMPDIR")).join(name);
+    let bytes: Vec<u8> = code.iter().flat_map(|word| word.to_le_bytes()).collect();
+    std::fs::write(&path, bytes).unwrap();
+    path
+}
+
+#[test]
+fn raw_binaries() {
+    // addi a0, x0, 5; addi a7, x0, 93; ecall
+    let exit = raw("exit", &[0x0050_0513, 0x05D0_0893, 0x73]);
+    let output = dispatcher(&[exit.to_str().unwrap()]);
+    assert_eq!(lines(&output).last().unwrap(), "exit status of the guest: 5");
+    assert!(!output.status.success());
+    // From the second instruction on, at another base: a0 is 0.
+    let output = dispatcher(&[exit.to_str().unwrap(), "80000004", "80000000"]);
+    assert_eq!(lines(&output).last().unwrap(), "exit status of the guest: 0");
+    assert!(output.status.success());
+}
+
+#[test]
+fn what_is_not_served() {
+    // csrr a0, cycle; ld a0, 0(x0); amoadd.w a0, a1, (sp); zeros; a jump out of memory
+    let cases: [(&str, &[u32], &str); 5] = [
+        ("csr", &[0x13, 0xC000_2573], "c0002573 at 10004 is not covered"),
+        ("load", &[0x13, 0x0000_3503], "3503 at 10004: 8 bytes at 0 are not in memory"),
+        ("amo", &[0x13, 0x00B1_252F], "b1252f at 10004: not served"),
+        ("zeros", &[], "0 at 10000 is not covered"),
+        (
+            "jump",
+            &[0x0000_0067],
+            "translate at 0: refused 4: the first instruction lacks a halfword",
+        ),
+    ];
+    for (name, code, error) in cases {
+        let path = raw(name, code);
+        let output = dispatcher(&[path.to_str().unwrap()]);
+        let text = String::from_utf8_lossy(&output.stderr);
+        assert!(text.contains(error), "{name}: {text}");
+        assert_eq!(output.status.code(), Some(1), "{name}");
+    }
+}

@@ -1,0 +1,43 @@
+/* The four functions from C. Prints document 01's row 5 as its program does, then a line for each of the others. */
+#include "hilofanur.h"
+
+#include <inttypes.h>
+#include <stdio.h>
+
+static uint32_t word_at(const uint8_t *bytes)
+{
+    return bytes[0] | (uint32_t)bytes[1] << 8 | (uint32_t)bytes[2] << 16 | (uint32_t)bytes[3] << 24;
+}
+
+static struct hilofanur_translate_answer translate(uint64_t slot_offset, uint8_t *output, size_t length)
+{
+    static const uint8_t guest[] = {0x01, 0x00, 0x41, 0x9c};
+    return hilofanur_translate(
+        guest, sizeof guest, 0x1000, 2, false, slot_offset, 0x10000, 0x20000, 0x30000, output, length);
+}
+
+int main(void)
+{
+    uint8_t output[HILOFANUR_LONGEST_BLOCK];
+    struct hilofanur_translate_answer block = translate(0, output, sizeof output);
+    for (uint32_t at = 0; at < block.length; at += 4)
+        printf("%08" PRIx32 "\n", word_at(output + at));
+    printf("%" PRIu32 "\n", block.count);
+    printf("refused %" PRIu32 "\n", translate(32520, output, sizeof output).refusal);
+    printf("refused %" PRIu32 "\n", translate(0, output, 19).refusal);
+
+    uint8_t store[64];
+    struct hilofanur_place_answer placed = hilofanur_place(store, sizeof store, 5, output, block.length);
+    printf("placed %" PRIu64 " %" PRIu64 "\n", placed.start, placed.used);
+
+    uint8_t registers[HILOFANUR_REGISTERS] = {0};
+    const uint8_t li[] = {0x7d, 0x55};
+    struct hilofanur_rv64_run_answer ran = hilofanur_rv64_run(li, sizeof li, 0x1000, 1, false, registers);
+    printf("ran %" PRIu32 " %" PRIx64 " %02x\n", ran.count, ran.next_pc, registers[87]);
+
+    uint8_t state[HILOFANUR_STATE] = {0}, slots[HILOFANUR_REGISTERS] = {0};
+    struct hilofanur_a64_run_answer run =
+        hilofanur_a64_run(store + placed.start, block.length, 0, state, 100, slots, sizeof slots, 0);
+    printf("end %d %" PRIu64 " %02x%02x\n", run.end == HILOFANUR_RETURNED, run.steps, state[1], state[0]);
+    return 0;
+}

@@ -1,0 +1,173 @@
+//! Recorded answers through the library, every lent slice between inaccessible pages: a byte too far faults.
+//! Slices that are lent to be read only stand in pages that cannot be written.
+
+mod guard;
+
+use guard::{Edge, Guarded};
+use hilofanur::boundary::{a64_run, place, rv64_run, translate};
+use hilofanur::boundary::{A64RunAnswer, PlaceAnswer, Rv64RunAnswer, TranslateAnswer};
+use hilofanur::{A64State, Guest, Host, Registers};
+use std::os::unix::process::ExitStatusExt;
+use std::process::Command;
+use steppers::records::{a64_cases, rv64_cases, Reader};
+
+const BLOCKS: &[u8] = include_bytes!("../../../oracle/recorded/blocks.bin");
+const PLACE: &[u8] = include_bytes!("../../../../crates/place_replay/data/place.bin");
+const RV64: &[u8] = include_bytes!("../../../../crates/rv64_replay/data/rv64.bin");
+const A64: &[u8] = include_bytes!("../../../../crates/a64_replay/data/a64.bin");
+const A64_RULES: &[u8] = include_bytes!("../../../../crates/a64_replay/data/a64_rules.bin");
+const EDGES: [Edge; 2] = [Edge::End, Edge::Start];
+const FILL: u8 = 0xA5;
+
+/// A recorded question to Translate with the Rust's answer; rust/oracle/README.md has the format.
+struct Case {
+    guest: Vec<u8>,
+    pc: u64,
+    limit: u32,
+    ignore_ebreak: bool,
+    host: Host,
+    room: usize,
+    answer: TranslateAnswer,
+    words: Vec<u8>,
+}
+
+impl Case {
+    fn read(r: &mut Reader) -> Case {
+        let length = r.u16();
+        let guest = r.bytes(length.into());
+        let (pc, limit, ignore_ebreak) = (r.u64(), r.u32(), r.u8() != 0);
+        let host = Host {
+            slot_offset: r.u64(),
+            memory_helper: r.u64(),
+            helper32: r.u64(),
+            helper16: r.u64(),
+        };
+        let room = r.u32() as usize;
+        let (refusal, helper, count) = (r.u8().into(), r.u8().into(), r.u8().into());
+        let length = 4 * u32::from(r.u16());
+        let words = r.bytes(length as usize);
+        let answer = TranslateAnswer { refusal, length, count, helper };
+        Case { guest, pc, limit, ignore_ebreak, host, room, answer, words }
+    }
+
+    fn replay(&self, edge: Edge) {
+        let guest = Guarded::read_only(&self.guest, edge);
+        let mut output = Guarded::new(&vec![FILL; self.room], edge);
+        let Case { pc, limit, ignore_ebreak, .. } = *self;
+        let guest = Guest { bytes: &guest, pc, limit, ignore_ebreak };
+        assert_eq!(translate(&guest, &self.host, &mut output), self.answer, "{guest:x?}");
+        let (written, rest) = output.split_at(self.words.len());
+        assert_eq!(written, self.words, "{guest:x?}");
+        assert!(rest.iter().all(|&byte| byte == FILL), "{guest:x?}");
+    }
+}
+
+#[test]
+fn translations() {
+    let mut r = Reader(BLOCKS);
+    let number = r.header(b"A64BLOCK");
+    r.u64();
+    assert!(number >= 4_900);
+    for _ in 0..number {
+        let case = Case::read(&mut r);
+        for edge in EDGES {
+            case.replay(edge);
+        }
+    }
+    assert!(r.0.is_empty());
+}
+
+#[test]
+fn places() {
+    let mut r = Reader(PLACE);
+    let mut number = 0;
+    while !r.0.is_empty() {
+        let size = r.u8().into();
+        let (before, used, length) = (r.bytes(size), r.u64(), r.u8());
+        let code = r.bytes(length.into());
+        let expected = PlaceAnswer { refusal: r.u8().into(), start: r.u64(), used: r.u64() };
+        let after = r.bytes(size);
+        for edge in EDGES {
+            let mut store = Guarded::new(&before, edge);
+            let code = Guarded::read_only(&code, edge);
+            assert_eq!(place(&mut store, used, &code), expected, "{size} {used} {length}");
+            assert_eq!(*store, after);
+        }
+        number += 1;
+    }
+    assert!(number >= 800);
+}
+
+#[test]
+fn rv64_runs() {
+    let cases = rv64_cases(RV64);
+    assert!(cases.len() >= 20_000);
+    for case in cases {
+        for edge in EDGES {
+            let bytes = Guarded::read_only(&case.guest, edge);
+            let guest =
+                Guest { bytes: &bytes, pc: case.pc, limit: case.limit, ignore_ebreak: false };
+            let mut registers = Guarded::new(&Registers { x: case.before }.to_bytes(), edge);
+            let answer = rv64_run(&guest, registers.first_chunk_mut().unwrap());
+            let (count, next_pc) = (case.answer.count, case.answer.next_pc);
+            assert_eq!(answer, Rv64RunAnswer { refusal: 0, count, next_pc }, "{guest:x?}");
+            assert_eq!(*registers, Registers { x: case.after }.to_bytes(), "{guest:x?}");
+        }
+    }
+}
+
+fn state_bytes(state: &steppers::A64State) -> [u8; 264] {
+    A64State { x: state.x, sp: state.sp, nzcv: state.nzcv }.to_bytes()
+}
+
+#[test]
+fn a64_runs() {
+    let mut cases = a64_cases(A64);
+    cases.extend(a64_cases(A64_RULES));
+    assert!(cases.len() >= 20_400);
+    for case in cases {
+        for edge in EDGES {
+            let block = Guarded::read_only(&case.block, edge);
+            let mut state = Guarded::new(&state_bytes(&case.before), edge);
+            let mut memory = Guarded::new(&case.memory_before, edge);
+            let lent = state.first_chunk_mut().unwrap();
+            let answer = a64_run(&block, case.address, lent, case.budget, &mut memory, case.base);
+            let (end, steps) = (case.answer.end, case.answer.steps);
+            assert_eq!(answer, A64RunAnswer { refusal: 0, end, steps }, "{:x?}", case.block);
+            assert_eq!(*state, state_bytes(&case.after), "{:x?}", case.block);
+            assert_eq!(*memory, case.memory_after, "{:x?}", case.block);
+        }
+    }
+}
+
+const TRY: &str = "HILOFANUR_GUARD";
+
+/// One access that has to fault.
+#[test]
+#[ignore = "guards_fault runs it, in processes of its own"]
+fn a_byte_too_far() {
+    let access = std::env::var(TRY).unwrap();
+    let bytes = Guarded::read_only(&[1, 2, 3], Edge::End);
+    match access.as_str() {
+        "behind" => drop(bytes.read_behind()),
+        "before" => drop(Guarded::new(&[1, 2, 3], Edge::Start).read_before()),
+        "write" => bytes.write_first(),
+        _ => {}
+    }
+}
+
+/// The guards guard: each access beyond them ends the process by SIGSEGV, an access inside does not.
+#[test]
+fn guards_fault() {
+    const SIGSEGV: i32 = 11;
+    for (access, signal) in
+        [("behind", Some(SIGSEGV)), ("before", Some(SIGSEGV)), ("write", Some(SIGSEGV)), ("", None)]
+    {
+        let child = Command::new(std::env::current_exe().unwrap())
+            .args(["--ignored", "--exact", "a_byte_too_far"])
+            .env(TRY, access)
+            .output()
+            .unwrap();
+        assert_eq!(child.status.signal(), signal, "{access}");
+    }
+}

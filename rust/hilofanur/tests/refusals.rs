@@ -1,0 +1,169 @@
+//! Every refusal of every operation: the lowest number that applies, other numbers zero, lent bytes unchanged.
+
+use hilofanur::boundary::{self, A64RunAnswer, PlaceAnswer, Rv64RunAnswer, TranslateAnswer};
+use hilofanur::{a64_run, place, rv64_run, translate, A64State, End, Guest, Host, Refusal};
+use hilofanur::{Placed, Registers};
+
+const HOST: Host =
+    Host { slot_offset: 0, memory_helper: 0x10000, helper32: 0x20000, helper16: 0x30000 };
+const NOP: &[u8] = &[1, 0];
+const FILL: u8 = 0xA5;
+
+fn guest(bytes: &[u8], pc: u64, limit: u32) -> Guest<'_> {
+    Guest { bytes, pc, limit, ignore_ebreak: false }
+}
+
+/// Output of `room` bytes is refused by the number and stays.
+fn refuse_translate(number: u32, guest: Guest, slot_offset: u64, room: usize) {
+    let host = Host { slot_offset, ..HOST };
+    let mut output = vec![FILL; room];
+    let answer = boundary::translate(&guest, &host, &mut output);
+    let expected = TranslateAnswer { refusal: number, ..TranslateAnswer::default() };
+    assert_eq!(answer, expected, "{guest:x?} {slot_offset} {room}");
+    assert_eq!(output, vec![FILL; room]);
+    let refusal = translate(&guest, &host, &mut output).unwrap_err();
+    assert_eq!(refusal.number(), number);
+}
+
+#[test]
+fn translate_by_number() {
+    for slot_offset in [1, 4, 7, 32_516, 32_520, 65_536, 1 << 63, u64::MAX - 7, u64::MAX] {
+        refuse_translate(1, guest(&[], 1, 0), slot_offset, 0);
+        refuse_translate(1, guest(NOP, 0, 1), slot_offset, 64);
+    }
+    refuse_translate(2, guest(&[], 1, 0), 32_512, 0);
+    refuse_translate(2, guest(NOP, 0, 0), 0, 64);
+    for pc in [1, 0x1001, u64::MAX] {
+        refuse_translate(3, guest(&[], pc, 1), 0, 0);
+        refuse_translate(3, guest(NOP, pc, u32::MAX), 0, 64);
+    }
+    for bytes in [&[][..], &[1], &[3, 0], &[3, 0, 0], &[0x73, 0, 0]] {
+        refuse_translate(4, guest(bytes, 0, 1), 0, 0);
+        refuse_translate(4, guest(bytes, 0, u32::MAX), 8, 64);
+    }
+    for bytes in [&[0, 0][..], &[0x41, 0x9C], &[0x73, 0, 0, 0], &[2, 0x90], &[0x63, 0x20, 0, 0]] {
+        refuse_translate(5, guest(bytes, 0, 1), 0, 0);
+        refuse_translate(5, guest(bytes, 0, 64), 0, 64);
+    }
+    for room in 0..12 {
+        refuse_translate(6, guest(NOP, 0x1000, 1), 0, room);
+    }
+}
+
+#[test]
+fn translate_accepts_the_edges() {
+    for (slot_offset, room) in [(0, 12), (8, 13), (32_512, 12)] {
+        let mut output = vec![FILL; room];
+        let host = Host { slot_offset, ..HOST };
+        let block = translate(&guest(NOP, 0x1000, u32::MAX), &host, &mut output).unwrap();
+        assert_eq!((block.length, block.count, block.helper), (12, 1, false));
+        assert_eq!(output[12..], vec![FILL; room - 12]);
+    }
+    let flagged = Guest { ignore_ebreak: true, ..guest(&[2, 0x90], 0x1000, 1) };
+    assert_eq!(translate(&flagged, &HOST, &mut [0; 64]).unwrap().count, 1);
+    // c.lw x8, 0(x8)
+    let block = translate(&guest(&[0, 0x40], 0x1000, 1), &HOST, &mut [0; 256]).unwrap();
+    assert_eq!((block.count, block.helper), (1, true));
+}
+
+fn refuse_place(number: u64, size: usize, used: u64, length: usize) {
+    let mut store = vec![FILL; size];
+    let answer = boundary::place(&mut store, used, &vec![1; length]);
+    let expected = PlaceAnswer { refusal: number, ..PlaceAnswer::default() };
+    assert_eq!(answer, expected, "{size} {used} {length}");
+    assert_eq!(store, vec![FILL; size]);
+    let refusal = place(&mut store, used as usize, &vec![1; length]).unwrap_err();
+    assert_eq!(u64::from(refusal.number()), number);
+}
+
+#[test]
+fn place_by_number() {
+    for used in [9, 1 << 32, u64::MAX - 3, u64::MAX] {
+        refuse_place(7, 8, used, 0);
+        refuse_place(7, 8, used, 9);
+    }
+    refuse_place(7, 0, 1, 0);
+    refuse_place(8, 8, 0, 9);
+    refuse_place(8, 8, 1, 5);
+    refuse_place(8, 8, 8, 1);
+    // The start is rounded up beyond the store.
+    refuse_place(8, 7, 5, 0);
+    let mut store = [FILL; 8];
+    assert_eq!(place(&mut store, 1, &[1, 2, 3, 4]), Ok(Placed { start: 4, used: 8 }));
+    assert_eq!(store, [FILL, FILL, FILL, FILL, 1, 2, 3, 4]);
+    assert_eq!(place(&mut store, 8, &[]), Ok(Placed { start: 8, used: 8 }));
+    assert_eq!(place(&mut [], 0, &[]), Ok(Placed { start: 0, used: 0 }));
+}
+
+fn refuse_rv64(number: u32, guest: Guest, x0: u64) {
+    let mut registers = Registers { x: [7; 32] };
+    registers.x[0] = x0;
+    let mut bytes = registers.to_bytes();
+    let expected = Rv64RunAnswer { refusal: number, ..Rv64RunAnswer::default() };
+    assert_eq!(boundary::rv64_run(&guest, &mut bytes), expected, "{guest:x?} {x0}");
+    assert_eq!(bytes, registers.to_bytes());
+    let before = registers;
+    assert_eq!(rv64_run(&guest, &mut registers).unwrap_err().number(), number);
+    assert_eq!(registers, before);
+}
+
+#[test]
+fn rv64_run_by_number() {
+    for x0 in [0, 1, 1 << 63] {
+        refuse_rv64(2, guest(&[], 1, 0), x0);
+        refuse_rv64(3, guest(&[], 1, 1), x0);
+        for bytes in [&[][..], &[1], &[3, 0], &[3, 0, 0]] {
+            refuse_rv64(4, guest(bytes, 0, 1), x0);
+        }
+        // Helper instructions are not covered here: c.lw, ld, sd, amoadd.w.
+        let helpers: [&[u8]; 4] =
+            [&[0, 0x40], &[3, 0x30, 0, 0], &[0x23, 0x30, 0, 0], &[0x2F, 0x20, 0, 0]];
+        for bytes in [&[0, 0][..], &[0x73, 0, 0, 0], &[2, 0x90]].into_iter().chain(helpers) {
+            refuse_rv64(5, guest(bytes, 0, 64), x0);
+        }
+    }
+    refuse_rv64(9, guest(NOP, 0, 1), 1);
+    refuse_rv64(9, guest(&[0x7D, 0x55], 0, 64), 1 << 63);
+}
+
+fn refuse_a64(number: u32, block: &[u8], memory: usize, base: u64) {
+    let state = A64State { x: std::array::from_fn(|n| n as u64), sp: 3, nzcv: u64::MAX };
+    let (mut bytes, mut lent) = (state.to_bytes(), vec![FILL; memory]);
+    let answer = boundary::a64_run(block, 0, &mut bytes, 9, &mut lent, base);
+    let expected = A64RunAnswer { refusal: number, ..A64RunAnswer::default() };
+    assert_eq!(answer, expected, "{block:x?} {memory} {base:x}");
+    assert_eq!((bytes, &lent), (state.to_bytes(), &vec![FILL; memory]));
+    let mut after = state;
+    let refusal = a64_run(block, 0, &mut after, 9, &mut lent, base).unwrap_err();
+    assert_eq!((refusal.number(), after), (number, state));
+}
+
+#[test]
+fn a64_run_by_number() {
+    // STR X0, [X0], and bytes of no word.
+    let block = [0, 0, 0, 0xF9, 0, 0, 0];
+    for length in [1, 2, 3, 5, 6, 7] {
+        refuse_a64(10, &block[..length], 16, 0);
+        refuse_a64(10, &block[..length], 16, u64::MAX);
+    }
+    refuse_a64(11, &block[..4], 16, u64::MAX - 14);
+    refuse_a64(11, &[], 2, u64::MAX);
+    let mut state = A64State { nzcv: u64::MAX, ..A64State::default() };
+    let run = a64_run(&[], 0, &mut state, 9, &mut [FILL; 16], u64::MAX - 15).unwrap();
+    assert_eq!((run.end, run.steps, state.nzcv), (End::OffTheEnd, 0, 15));
+}
+
+#[test]
+fn numbers_and_words() {
+    for (refusal, number) in Refusal::ALL.into_iter().zip(1..) {
+        assert_eq!((refusal.number(), Refusal::from_number(number)), (number, Some(refusal)));
+        let text = refusal.to_string();
+        assert_eq!(text, format!("refused {number}: {}", refusal.meaning()));
+        assert!(Refusal::ALL.iter().all(|&other| other == refusal || other.to_string() != text));
+    }
+    for (end, number) in End::ALL.into_iter().zip(1..) {
+        assert_eq!((end.number(), End::from_number(number)), (number, Some(end)));
+    }
+    assert_eq!((Refusal::from_number(0), Refusal::from_number(12)), (None, None));
+    assert_eq!((End::from_number(0), End::from_number(7)), (None, None));
+}
