@@ -30,8 +30,8 @@ fn same_answer(answer: Answer, found: &[u8; 5]) -> bool {
         && answer.length == 4 * (le::load16(found, 3) as u32)
 }
 
-// Compares the answer and every byte of the output. `output` and `expected` hold the same bytes; the recorded words go to
-// the front of `expected`, so that a byte behind them, or any byte under a refusal, must be as it was.
+// Compares refusal, helper mark, count, length and every byte of the output. `output` and `expected` come with the same
+// bytes, and the recorded words go to the front of `expected`: the bytes behind them, and all under a refusal, must stay.
 fn agrees(fd: i32, guest: &[u8], asked: &[u8; 49], output: &mut [u8], expected: &mut [u8]) -> bool {
     let answer = ask(guest, asked, output);
     let mut found = [0u8; 5];
@@ -47,7 +47,7 @@ fn agrees(fd: i32, guest: &[u8], asked: &[u8; 49], output: &mut [u8], expected: 
     whole && same_answer(answer, &found) && check::same(output, expected)
 }
 
-// The output is as long as the case says; one that offers more than 8,192 bytes counts as differing.
+// The output is as long as the case says. The files offer 7,452 bytes at most; more than 8,192 would count as differing.
 fn replay_question(fd: i32, guest: &[u8]) -> bool {
     let mut asked = [0u8; 49];
     if io::read_full(fd, &mut asked) < 49 {

@@ -31,7 +31,8 @@ fn print_answer(answer: Answer, output: &[u8]) {
     print_line(answer.count);
 }
 
-// PC (8 bytes), limit (4), flag (1), then the guest bytes: of these at most 256 are read.
+// PC (8 bytes), limit (4), flag (1), then the guest bytes, of which at most 256 are read.
+// The slot offset is 0; the helpers are those for memory, 32-bit and 16-bit instructions.
 fn main() {
     let mut input = [0u8; 269];
     let n = io::read_full(STDIN_FILENO, &mut input);
