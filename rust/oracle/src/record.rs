@@ -295,7 +295,7 @@ fn placed() -> Vec<u8> {
 /// The recorded files by name.
 pub fn files() -> [(&'static str, Vec<u8>); 4] {
     [
-        ("rust/oracle/recorded/blocks.bin", blocks()),
+        ("crates/blocks_replay/data/blocks.bin", blocks()),
         ("crates/decode_replay/data/decode.bin", decoded()),
         ("crates/decode_replay/data/compressed.bin", compressed()),
         ("crates/place_replay/data/place.bin", placed()),

@@ -1,0 +1,23 @@
+use borrow.Author.Needs.{needs}
+use Rattle.blocks_replay.proofs.replay_all.Statement.{statement}
+use Rattle.blocks_replay.proofs.replay_all.Tie as tie
+
+abbrev Inv-loop : tie.InvT-loop
+Inv-loop fd cases wrong₀ left₀ wrong left = Unit {0}
+
+abbrev μ-loop : tie.MeasureT-loop
+μ-loop fd cases wrong₀ left₀ wrong left = left
+
+pub replay-all-spec : {M : Type 1} → statement M
+replay-all-spec =
+    tie.close
+    (tie.spec
+    Inv-loop
+    μ-loop
+    (λ c. search needs)
+    (λ c κs. search needs)
+    (λ c κs. search needs)
+    (λ c. search needs)
+    (λ c. search needs)
+    (λ c. search needs)
+    (λ c. search needs))

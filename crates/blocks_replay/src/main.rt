@@ -1,0 +1,141 @@
+// Replays Translate: document 01's marked blocks (marked.bin), and cases that emuko's Rust answered (blocks.bin).
+// rust/oracle/README.md has the format of both files.
+use jit_arm64::Answer;
+use libc::STDOUT_FILENO;
+
+// Translates as the case says; `asked` is what the file has between the guest bytes and the answer.
+fn ask(guest: &[u8], asked: &[u8; 49], output: &mut [u8]) -> Answer {
+    translation::translate(
+        guest,
+        le::load64(asked, 0),
+        le::load32(asked, 8),
+        asked[12] != 0,
+        le::load64(asked, 13),
+        le::load64(asked, 21),
+        le::load64(asked, 29),
+        le::load64(asked, 37),
+        output,
+    )
+}
+
+fn wide(b: u8) -> u32 {
+    b as u32
+}
+
+// Whether the recorded answer is this one; `found` is what the file has between the question and the words.
+fn same_answer(answer: Answer, found: &[u8; 5]) -> bool {
+    answer.refusal == wide(found[0])
+        && answer.helper == wide(found[1])
+        && answer.count == wide(found[2])
+        && answer.length == 4 * (le::load16(found, 3) as u32)
+}
+
+// Compares refusal, helper mark, count, length and every byte of the output. `output` and `expected` come with the same
+// bytes, and the recorded words go to the front of `expected`: the bytes behind them, and all under a refusal, must stay.
+fn agrees(fd: i32, guest: &[u8], asked: &[u8; 49], output: &mut [u8], expected: &mut [u8]) -> bool {
+    let answer = ask(guest, asked, output);
+    let mut found = [0u8; 5];
+    if io::read_full(fd, &mut found) < 5 {
+        return false;
+    }
+    let length = 4 * (le::load16(&found, 3) as usize);
+    if expected.len() < length {
+        return false;
+    }
+    let words = &mut expected[..length];
+    let whole = io::read_full(fd, words) == length;
+    whole && same_answer(answer, &found) && check::same(output, expected)
+}
+
+// The output is as long as the case says. The files offer 7,452 bytes at most; more than 8,192 would count as differing.
+fn replay_question(fd: i32, guest: &[u8]) -> bool {
+    let mut asked = [0u8; 49];
+    if io::read_full(fd, &mut asked) < 49 {
+        return false;
+    }
+    let room = le::load32(&asked, 45) as usize;
+    if room > 8192 {
+        return false;
+    }
+    let mut output = [0xA5u8; 8192];
+    let mut expected = [0xA5u8; 8192];
+    agrees(
+        fd,
+        guest,
+        &asked,
+        &mut output[..room],
+        &mut expected[..room],
+    )
+}
+
+// Whether the next case is as recorded; a file that ends within it is not.
+fn replay_case(fd: i32) -> bool {
+    let mut size = [0u8; 2];
+    if io::read_full(fd, &mut size) < 2 {
+        return false;
+    }
+    let n = le::load16(&size, 0) as usize;
+    if n > 256 {
+        return false;
+    }
+    let mut bytes = [0u8; 256];
+    let guest = &mut bytes[..n];
+    if io::read_full(fd, guest) < n {
+        return false;
+    }
+    replay_question(fd, guest)
+}
+
+// How many of the next cases differ.
+fn replay_all(fd: i32, cases: u32) -> u32 {
+    let mut wrong = 0;
+    let mut left = cases;
+    while left > 0 {
+        if !replay_case(fd) {
+            wrong = std::num::wrapping_add_u32(wrong, 1);
+        }
+        left -= 1;
+    }
+    wrong
+}
+
+// "A64BLOCK"
+const MAGIC: u64 = 0x4b43_4f4c_4234_3641;
+
+// How many cases the file has; none where it is no file of cases. The seed behind the number is not used.
+fn read_header(fd: i32) -> u32 {
+    let mut header = [0u8; 20];
+    io::read_full(fd, &mut header);
+    if le::load64(&header, 0) != MAGIC {
+        return 0;
+    }
+    le::load32(&header, 8)
+}
+
+// Replays a file's cases and says how many there were and how many differ, and whether the file goes on behind them.
+fn replay(path: &[u8]) {
+    let fd = os::open_read(path);
+    if fd < 0 {
+        os::fail(path);
+        return;
+    }
+    let cases = read_header(fd);
+    let wrong = replay_all(fd, cases);
+    let mut behind = [0u8; 1];
+    let rest = io::read_full(fd, &mut behind);
+    libc::close(fd);
+    io::write_all(STDOUT_FILENO, path);
+    io::write_all(STDOUT_FILENO, b": ");
+    io::print_decimal(STDOUT_FILENO, cases as u64);
+    io::write_all(STDOUT_FILENO, b" cases, ");
+    io::print_decimal(STDOUT_FILENO, wrong as u64);
+    io::write_all(STDOUT_FILENO, b" differ\n");
+    if rest > 0 {
+        io::write_all(STDOUT_FILENO, b"more bytes behind them\n");
+    }
+}
+
+fn main() {
+    replay(b"marked.bin");
+    replay(b"blocks.bin");
+}
