@@ -139,7 +139,7 @@ pub struct A64Emitter {
 }
 
 // One word behind the first `at`, or nothing where it does not fit; the new count.
-fn emit_at(words: &mut [u32; MAX_WORDS], at: usize, w: u32) -> usize
+pub fn emit_at(words: &mut [u32; MAX_WORDS], at: usize, w: u32) -> usize
     requires { ⌜ length (now words) ≡ max-words ⌝ }
     ensures { λ r. ⌜ Added (now (words .entry)) at (now (words .exit)) r (w ∷ []) ⌝ }
 {
@@ -174,7 +174,7 @@ fn upper_count(p: u32) -> usize
 }
 
 // A constant behind the first `at`, or nothing where its words do not all fit; the new count.
-fn mov_imm64_at(words: &mut [u32; MAX_WORDS], at: usize, rd: u8, val: u64) -> usize
+pub fn mov_imm64_at(words: &mut [u32; MAX_WORDS], at: usize, rd: u8, val: u64) -> usize
     requires { ⌜ (length (now words) ≡ max-words) × (rd < 32) ⌝ }
     ensures { λ r. ⌜ Added (now (words .entry)) at (now (words .exit)) r (encoded (constant rd val)) ⌝ }
 {

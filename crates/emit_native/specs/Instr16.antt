@@ -101,8 +101,11 @@ c-branch-on pc instr condition =
     ∷ emit (csel-x 0 12 13 condition)
     ∷ [])
 
+abbrev pub c-condition : ℕ → ℕ
+c-condition funct3 = cond (eqb funct3 0b110) C-EQ C-NE
+
 unfoldable pub c-branch : ℕ → ℕ → ℕ → Emission
-c-branch pc instr funct3 = c-branch-on pc instr (cond (eqb funct3 0b110) C-EQ C-NE)
+c-branch pc instr funct3 = c-branch-on pc instr (c-condition funct3)
 
 unfoldable pub c-addi16sp-lui : ℕ → Emission
 c-addi16sp-lui instr = cond (eqb (c-rd instr) 2) (c-addi16sp instr) (c-lui instr)

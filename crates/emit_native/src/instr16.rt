@@ -3,7 +3,7 @@ ghost use mathlib.Core.Path.{_≡_};
 ghost use Prim.Native.Nat.{_<_, _≤_, _+_, _/_, _%_};
 ghost use Rattle.a64.specs.Emitter.{held};
 ghost use Rattle.emit_native.specs.Calls.{Emits};
-ghost use Rattle.emit_native.specs.Instr16.{addi4spn, quadrant-0, c-addi, c-addiw, c-li, c-addi16sp, c-lui, c-srli, c-srai, c-andi, c-alu, c-group, c-j, c-branch-on, c-addi16sp-lui, quadrant-1, c-slli, c-jr, c-mv, c-jalr, c-add, c-jump-move-add, quadrant-2, emit-native-instr16};
+ghost use Rattle.emit_native.specs.Instr16.{addi4spn, quadrant-0, c-addi, c-addiw, c-li, c-addi16sp, c-lui, c-srli, c-srai, c-andi, c-alu, c-group, c-j, c-condition, c-branch, c-addi16sp-lui, quadrant-1, c-slli, c-jr, c-mv, c-jalr, c-add, c-jump-move-add, quadrant-2, emit-native-instr16};
 use crate::EmitFlow;
 use crate::Emitted;
 use crate::Host;
@@ -232,10 +232,16 @@ fn emit_c_j(em: A64Emitter, pc: u64, instr: u16, slots: u16) -> Emitted
     terminate(em.mov_imm64(0, target))
 }
 
-// C.BEQZ and C.BNEZ, whose condition is given.
-fn emit_c_branch(em: A64Emitter, slots: u16, pc: u64, instr: u16, condition: u8) -> Emitted
-    requires { ⌜ (slots ≤ 32512) × (condition < 16) ⌝ }
-    ensures { λ r. ⌜ Emits slots (held em) (c-branch-on pc instr condition) r ⌝ }
+fn c_condition(funct3: u16) -> u8
+    ensures { λ r. ⌜ (r ≡ c-condition funct3) × (r < 16) ⌝ }
+{
+    if funct3 == 0b110 { C_EQ } else { C_NE }
+}
+
+// C.BEQZ and C.BNEZ.
+fn emit_c_branch(em: A64Emitter, slots: u16, pc: u64, instr: u16, funct3: u16) -> Emitted
+    requires { ⌜ slots ≤ 32512 ⌝ }
+    ensures { λ r. ⌜ Emits slots (held em) (c-branch pc instr funct3) r ⌝ }
 {
     let em = load(em, slots, 9, high_prime(instr));
     let em = em.mov_imm64(10, 0);
@@ -243,7 +249,7 @@ fn emit_c_branch(em: A64Emitter, slots: u16, pc: u64, instr: u16, condition: u8)
     let target = std::num::wrapping_add_u64(pc, isa::decode::imm_cb(instr));
     let em = em.mov_imm64(12, target);
     let em = em.mov_imm64(13, std::num::wrapping_add_u64(pc, 2));
-    terminate(em.emit(A64Emitter::csel_x(0, 12, 13, condition)))
+    terminate(em.emit(A64Emitter::csel_x(0, 12, 13, c_condition(funct3))))
 }
 
 fn emit_c_sp_or_lui(em: A64Emitter, slots: u16, instr: u16) -> Emitted
@@ -260,15 +266,15 @@ fn emit_quadrant_1(em: A64Emitter, slots: u16, pc: u64, instr: u16) -> Emitted
     requires { ⌜ slots ≤ 32512 ⌝ }
     ensures { λ r. ⌜ Emits slots (held em) (quadrant-1 pc instr) r ⌝ }
 {
-    match instr / 0x2000 % 8 {
+    let funct3 = instr / 0x2000 % 8;
+    match funct3 {
         0b000 => emit_c_addi(em, slots, instr),
         0b001 => emit_c_addiw(em, slots, instr),
         0b010 => emit_c_li(em, slots, instr),
         0b011 => emit_c_sp_or_lui(em, slots, instr),
         0b100 => emit_c_group(em, slots, instr),
         0b101 => emit_c_j(em, pc, instr, slots),
-        0b110 => emit_c_branch(em, slots, pc, instr, C_EQ),
-        0b111 => emit_c_branch(em, slots, pc, instr, C_NE),
+        0b110 | 0b111 => emit_c_branch(em, slots, pc, instr, funct3),
         _ => none(em),
     }
 }

@@ -4,13 +4,15 @@ use native.Mathlib.Omega.{arith}
 use mathlib.Core.Path.{_≡_, refl, sym, ap, _∙_}
 use mathlib.Core.Bool.{Bool, true, false, cond, _||_}
 use mathlib.Core.Logic.{_⊎_, inl, inr}
-use mathlib.Core.List.{List, [], _∷_, _++_, append-nil, map-append, flatten}
+use mathlib.Core.List.{List, [], _∷_, _++_, append-assoc, append-nil, map-append, flatten}
 use mathlib.Core.Option.{Option}
 use lib.Dec.{eqb}
 use lib.ListN.{length, take, length-append, length-take}
 use borrow.Author.Tests.{eqb-true}
-use Rattle.a64.specs.Emitter.{max-words, held, encoded, emitted, emitted-all, halfword, constant, upper, Added}
-use Rattle.a64.proofs.Emission.{constant-length, upper-none, emitted-all-new, emitted-fits, length-encoded, emitted-all-append}
+use Rattle.a64.specs.declared.Form.{Form}
+use Rattle.a64.specs.Forms.{encode}
+use Rattle.a64.specs.Emitter.{max-words, held, encoded, emitted-all, halfword, constant, upper, Added}
+use Rattle.a64.proofs.Emission.{constant-length, upper-none, emitted-all-new, emitted-fits, length-encoded}
 use Rattle.isa.specs.declared.decode.Decoded32.{Decoded32}
 use Rattle.emit_native.specs.declared.EmitFlow.{EmitFlow}
 use Rattle.emit_native.specs.declared.EmitFlow.the-variants.{Continue, Terminate, None}
@@ -22,18 +24,57 @@ use Rattle.jit_arm64.specs.declared.block.Outcome.{Outcome}
 use Rattle.jit_arm64.specs.declared.block.Outcome.the-variants.{GoOn, End, Help, Pass, Lack}
 use Rattle.emit_native.specs.Isa.{OPCODE-LOAD, OPCODE-STORE, OPCODE-LOAD-FP, OPCODE-STORE-FP, OPCODE-SYSTEM, OPCODE-AMO, F3-LB, F3-LH, F3-LW, F3-LD, F3-LBU, F3-LHU, F3-LWU, F3-SB, F3-SH, F3-SW, F3-SD}
 use Rattle.emit_native.specs.Decode.{decode32, c-op, c-funct3, imm-i, imm-s}
-use Rattle.emit_native.specs.Calls.{Call, emit, mov-imm64, load, groups, words, if-not-0, Emission, Emits, none, terminate, add-x, ldr-x, str-x, mov-x, sub-sp-imm, add-sp-imm, blr, ret}
+use Rattle.emit_native.specs.Calls.{Call, emit, mov-imm64, load, forms, groups, words, if-not-0, Emission, Emits, none, terminate, add-x, ldr-x, str-x, mov-x, sub-sp-imm, add-sp-imm, blr, ret}
 use Rattle.emit_native.specs.Instr16.{emit-native-instr16, quadrant-0, quadrant-2}
 use Rattle.emit_native.specs.Instr32.{emit-native-instr}
 use Rattle.emit_native.specs.TermHelper.{call-helper, call-exec, load-calls, store-calls, load-helper, store-helper, load-op, store-op, opcode-helper, memory-funct3, supports, emit-native-term-helper16, emit-native-term-helper32}
-use Rattle.jit_arm64.specs.declared.block.Part.{Part}
-use Rattle.jit_arm64.specs.Block.{Turn, turn, after, none-outcome, instr16-turn, instr-turn, most, turned, PartOf, TurnedOf}
+use Rattle.jit_arm64.specs.declared.block.Turned.{Turned}
+use Rattle.jit_arm64.specs.Block.{turn, after, help-turn, none-outcome, instr16-turn, instr-turn, turned, Appended, TurnedOf}
 use Rattle.emit_native.proofs.Size.{size, size-append, size-le, if-size, by, Within, instr-size, instr16-size}
+
+-- ---- words behind others
+
+forms-append : (slots : ℕ) (cs ds : List Call) → flatten (groups slots (cs ++ ds)) ≡ flatten (groups slots cs) ++ flatten (groups slots ds)
+unfolding flatten
+forms-append slots [] ds = refl
+forms-append slots (c ∷ cs) ds =
+    ap (λ (l : List Form). forms slots c ++ l) (forms-append slots cs ds)
+    ∙ sym (append-assoc (forms slots c) (flatten (groups slots cs)) (flatten (groups slots ds)))
+
+pub words-append : (slots : ℕ) (cs ds : List Call) → words slots (cs ++ ds) ≡ words slots cs ++ words slots ds
+unfolding words
+words-append slots cs ds = ap encoded (forms-append slots cs ds) ∙ map-append encode (flatten (groups slots cs)) (flatten (groups slots ds))
+
+-- they all fit
+pub put : (l : List ℕ) (n : ℕ) (l′ : List ℕ) (r : ℕ) (ws : List ℕ) → length l ≡ max-words → n + length ws ≤ max-words → Added l n l′ r ws → Appended l n l′ r ws
+put l n l′ r ws long room added =
+    let b : length (take n l) ≡ n = rw long at (length-take n l) ∙ (omega arith) in
+    let h : take r l′ ≡ take n l ++ ws = added .holds ∙ emitted-fits (take n l) ws (omega arith) in
+    let k : min r max-words ≡ length (take n l) + length ws = sym (rw (added .long) at (length-take r l′)) ∙ ap length h ∙ length-append (take n l) ws in
+    let m : r ≤ max-words = added .room (omega arith) in
+    record { long = added .long; holds = h; len = omega arith; room = m }
+
+pub behind : {l l′ l″ : List ℕ} {n m r : ℕ} {us vs : List ℕ} → Appended l n l′ m us → Appended l′ m l″ r vs → Appended l n l″ r (us ++ vs)
+behind {l} {n = n} {us = us} {vs = vs} a b =
+    record {
+      long = b .long;
+      holds = b .holds ∙ rw (a .holds) (append-assoc (take n l) us vs);
+      len = omega (arith, a .len, b .len, length-append us vs);
+      room = b .room;
+    }
+
+-- the most words of a turn, by what came of it
+unfoldable pub most : Outcome → ℕ
+most GoOn = 29
+most End = 29
+most Help = 33
+most Pass = 29
+most Lack = 29
 
 -- ---- a helper's call
 
 -- a constant of 16 bits is one word
-constant-small : (rd v : ℕ) → v < 65536 → length (constant rd v) ≡ 1
+pub constant-small : (rd v : ℕ) → v < 65536 → length (constant rd v) ≡ 1
 constant-small rd v h =
     let a : halfword 1 v ≡ 0 = omega arith in
     let b : halfword 2 v ≡ 0 = omega arith in
@@ -194,32 +235,47 @@ module _ (slots : ℕ) where
   helper-size e helper (inl a) = rw a (omega arith)
   helper-size e helper (inr a) = a .2
 
-  module _ (h : List ℕ) (new : h ≡ []) (e helper : Emission) (n : ℕ) (out : Emitted) (emits : Emits slots h e out)
-      (few : size slots (e .calls) ≤ 29) where
-    alone : held (out .em) ≡ words slots (e .calls)
-    unfolding words
-    alone = emits .words ∙ emitted-all-new h (groups slots (e .calls)) new (omega arith)
+  -- how many words the inline part leaves room for
+  both-size : (e helper : Emission) → size slots (e .calls) ≤ 29 → Apart e helper → size slots (e .calls) + size slots (helper .calls) ≤ 33
+  unfolding flatten
+  both-size e helper l (inl a) = rw a (omega arith)
+  both-size e helper l (inr a) = let k = a .2 in rw (a .0) (omega arith)
 
-    pub goes-on : out .flow ≡ Continue → PartOf slots (after (e .flow) e helper n) (record { em = out .em; outcome = GoOn })
+  pub helper16-size : (h : Host) (pc instr k : ℕ) → size slots (emit-native-term-helper16 h pc instr k .calls) ≤ 33
+  helper16-size h pc instr k = helper-size _ _ (apart16 h pc instr k)
+
+  pub helper32-size : (h : Host) (pc instr k : ℕ) → size slots (emit-native-term-helper32 h pc instr (decode32 instr) k .calls) ≤ 33
+  helper32-size h pc instr k = helper-size _ _ (apart32 h pc instr (decode32 instr) k (omega arith))
+
+  words-size : (cs : List Call) → length (words slots cs) ≡ size slots cs
+  unfolding words
+  words-size cs = length-encoded (flatten (groups slots cs))
+
+  -- what an emitter's words are, from a new one
+  pub alone : (h : List ℕ) (e : Emission) (out : Emitted) → h ≡ [] → Emits slots h e out → size slots (e .calls) ≤ 33 → held (out .em) ≡ words slots (e .calls)
+  unfolding words
+  alone h e out new emits few = emits .words ∙ emitted-all-new h (groups slots (e .calls)) new (omega arith)
+
+  module _ (e helper : Emission) (n : ℕ) {l l′ : List ℕ} {at len : ℕ} (few : size slots (e .calls) ≤ 29) (apart : Apart e helper)
+      (low : at ≤ 29 * 63) (long : length l ≡ max-words) {ws : List ℕ} (alone : ws ≡ words slots (e .calls)) (added : Added l at l′ len ws) where
+    inline : Appended l at l′ len (words slots (e .calls))
+    inline = put l at l′ len (words slots (e .calls)) long (omega (arith, words-size (e .calls))) (rw alone at added)
+
+    pub goes-on : e .flow ≡ Continue → TurnedOf slots (after (e .flow) e helper n) l at l′ (record { len = len; size = n; outcome = GoOn })
     unfolding after
-    goes-on t = rw (← emits .flow, t) (record { held-words = alone; outcome = refl })
+    goes-on t = rw t (record { appended = inline; size = refl; outcome = refl })
 
-    pub ends : out .flow ≡ Terminate → PartOf slots (after (e .flow) e helper n) (record { em = out .em; outcome = End })
+    pub ends : e .flow ≡ Terminate → TurnedOf slots (after (e .flow) e helper n) l at l′ (record { len = len; size = n; outcome = End })
     unfolding after
-    ends t = rw (← emits .flow, t) (record { held-words = alone; outcome = refl })
+    ends t = rw t (record { appended = inline; size = refl; outcome = refl })
 
-    pub helps : out .flow ≡ None → (r : Emitted) → Emits slots (held (out .em)) helper r → Apart e helper
-        → (p : Part) → p .em ≡ r .em → p .outcome ≡ none-outcome (r .flow) → PartOf slots (after (e .flow) e helper n) p
-    unfolding after words
-    helps t r m a p x y =
-        let l : length (flatten (groups slots (e .calls ++ helper .calls))) ≤ max-words =
-        omega (arith, size-append slots (e .calls) (helper .calls), helper-size e helper a) in
-        rw (← emits .flow, t)
-        (record {
-          held-words = rw (x, m .words, emits .words) (sym (rw map-append (emitted-all-append h (groups slots (e .calls)) (groups slots (helper .calls))))
-              ∙ emitted-all-new h (groups slots (e .calls ++ helper .calls)) new l);
-          outcome = y ∙ ap none-outcome (m .flow);
-        })
+    -- the helper's words fit behind
+    pub fits : len + length (words slots (helper .calls)) ≤ max-words
+    fits = omega (arith, both-size e helper few apart, words-size (e .calls), words-size (helper .calls), inline .len)
+
+    pub helps : e .flow ≡ None → {l″ : List ℕ} {r : Turned} → TurnedOf slots (help-turn helper n) l′ len l″ r → TurnedOf slots (after (e .flow) e helper n) l at l″ r
+    unfolding after
+    helps t u = rw t (record { appended = rw (words-append slots (e .calls) (helper .calls)) (behind inline (u .appended)); size = u .size; outcome = u .outcome })
 
   -- how many words a turn adds
   after-size : (e helper : Emission) (n : ℕ) → size slots (e .calls) ≤ 29 → Apart e helper → (f : EmitFlow) → e .flow ≡ f
@@ -230,7 +286,7 @@ module _ (slots : ℕ) where
   after-size e helper n l (inl a) None t = rw a (omega (arith, size-append slots (e .calls) []))
   after-size e helper n l (inr a) None t = rw (a .0, a .1) (a .2)
 
-  pub turn-size : (h : Host) (pc k : ℕ) (f : Fetched) → size slots ((turn h pc k f) .calls) ≤ most ((turn h pc k f) .outcome)
+  turn-size : (h : Host) (pc k : ℕ) (f : Fetched) → size slots ((turn h pc k f) .calls) ≤ most ((turn h pc k f) .outcome)
   unfolding turn instr16-turn instr-turn most flatten
   turn-size h pc k Missing = omega arith
   turn-size h pc k (Half w) =
@@ -241,32 +297,13 @@ module _ (slots : ℕ) where
       after-size e (emit-native-term-helper32 h pc w (decode32 w) k) 4 (instr-size slots pc w (decode32 w) .within)
       (apart32 h pc w (decode32 w) k (omega arith)) (e .flow) refl
 
-  most-33 : (o : Outcome) → most o ≤ 33
-  unfolding most
-  most-33 GoOn = omega arith
-  most-33 End = omega arith
-  most-33 Help = omega arith
-  most-33 Pass = omega arith
-  most-33 Lack = omega arith
-
-  -- the words of a turn behind the first n of l
-  pub appended : (t : Turn) (p : Part) (l : List ℕ) (n : ℕ) (l′ : List ℕ) (r size′ : ℕ) → size slots (t .calls) ≤ most (t .outcome)
-      → length l ≡ max-words → n + 33 < max-words → PartOf slots t p → Added l n l′ r (held (p .em)) → size′ ≡ t .size
-      → TurnedOf slots t l n l′ (record { len = r; size = size′; outcome = p .outcome })
-  unfolding words
-  appended t p l n l′ r size′ few long room part added same =
-      let ws = words slots (t .calls) in
-      let a : length ws ≡ size slots (t .calls) = length-encoded (flatten (groups slots (t .calls))) in
-      let b : length (take n l) ≡ n = rw long at (length-take n l) ∙ (omega arith) in
-      let m = most-33 (t .outcome) in
-      let h : take r l′ ≡ take n l ++ ws = added .holds ∙ rw (part .held-words) (emitted-fits (take n l) ws (omega arith)) in
-      let k : min r max-words ≡ length (take n l) + length ws = sym (rw (added .long) at (length-take r l′)) ∙ ap length h ∙ length-append (take n l) ws in
-      record { long = added .long; holds = h; size = same; outcome = part .outcome; room = omega arith }
+  pub turn-words : (h : Host) (pc k : ℕ) (f : Fetched) → length (words slots ((turn h pc k f) .calls)) ≤ most ((turn h pc k f) .outcome)
+  turn-words h pc k f = omega (arith, words-size ((turn h pc k f) .calls), turn-size h pc k f)
 
   -- nothing behind the first n of l
-  pub lacking : (l : List ℕ) (n : ℕ) → length l ≡ max-words → TurnedOf slots (turned [] 0 Lack) l n l (record { len = n; size = 0; outcome = Lack })
-  unfolding words flatten most
-  lacking l n long = record { long = long; holds = sym (append-nil (take n l)); size = refl; outcome = refl; room = omega arith }
+  pub lacking : (l : List ℕ) (n : ℕ) → length l ≡ max-words → n ≤ max-words → TurnedOf slots (turned [] 0 Lack) l n l (record { len = n; size = 0; outcome = Lack })
+  unfolding words flatten
+  lacking l n long low = record { appended = record { long = long; holds = sym (append-nil (take n l)); len = omega arith; room = low }; size = refl; outcome = refl }
 
 -- an instruction's length
 pub after-length : (f : EmitFlow) (e helper : Emission) (n : ℕ) → n ≡ (after f e helper n) .size

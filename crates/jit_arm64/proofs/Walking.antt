@@ -2,14 +2,12 @@
 use Prim.Native.Nat.{ℕ, suc, _+_, _*_, _-_, _≤_}
 use native.Mathlib.Omega.{arith}
 use mathlib.Core.Path.{_≡_, refl, sym, ap, _∙_}
-use mathlib.Core.List.{List, [], _∷_, _++_, append-assoc, append-nil, map-append, flatten}
+use mathlib.Core.List.{List, [], _∷_, _++_, append-assoc, append-nil, flatten}
 use lib.ListN.{length, take}
 use Rattle.word.specs.Word.{add}
-use Rattle.a64.specs.declared.Form.{Form}
-use Rattle.a64.specs.Forms.{encode}
-use Rattle.a64.specs.Emitter.{max-words, encoded}
+use Rattle.a64.specs.Emitter.{max-words}
 use Rattle.emit_native.specs.declared.Host.{Host}
-use Rattle.emit_native.specs.Calls.{Call, words, forms, groups}
+use Rattle.emit_native.specs.Calls.{Call, words}
 use Rattle.emit_native.specs.Decode.{decode32}
 use Rattle.emit_native.specs.Instr16.{emit-native-instr16}
 use Rattle.emit_native.specs.Instr32.{emit-native-instr}
@@ -22,19 +20,8 @@ use Rattle.jit_arm64.specs.declared.block.Stop.{Stop}
 use Rattle.jit_arm64.specs.declared.block.Stop.the-variants.{Limit, Ended, Helper, Uncovered, NotFetched}
 use Rattle.jit_arm64.specs.declared.block.Turned.{Turned}
 use Rattle.jit_arm64.specs.declared.block.Walked.{Walked}
-use Rattle.jit_arm64.specs.Block.{max-steps, Turn, turn, instr16-turn, instr-turn, fetch, Walk, walked, in-front, step, walk, most, most-walked, TurnedOf, WalkedOf}
-use Rattle.jit_arm64.proofs.Turns.{after-length}
-
-pub forms-append : (slots : ℕ) (cs ds : List Call) → flatten (groups slots (cs ++ ds)) ≡ flatten (groups slots cs) ++ flatten (groups slots ds)
-unfolding flatten
-forms-append slots [] ds = refl
-forms-append slots (c ∷ cs) ds =
-    ap (λ (l : List Form). forms slots c ++ l) (forms-append slots cs ds)
-    ∙ sym (append-assoc (forms slots c) (flatten (groups slots cs)) (flatten (groups slots ds)))
-
-pub words-append : (slots : ℕ) (cs ds : List Call) → words slots (cs ++ ds) ≡ words slots cs ++ words slots ds
-unfolding words
-words-append slots cs ds = ap encoded (forms-append slots cs ds) ∙ map-append encode (flatten (groups slots cs)) (flatten (groups slots ds))
+use Rattle.jit_arm64.specs.Block.{max-steps, Turn, turn, instr16-turn, instr-turn, fetch, Walk, walked, in-front, step, walk, most-walked, TurnedOf, WalkedOf}
+use Rattle.jit_arm64.proofs.Turns.{most, words-append, turn-words, after-length}
 
 -- an instruction has at most four bytes
 turn-length : (h : Host) (pc k : ℕ) (f : Fetched) → (turn h pc k f) .size ≤ 4
@@ -86,7 +73,10 @@ module _ {h : Host} {guest : List ℕ} {start limit : ℕ} {l : List ℕ} {len i
         rw (← e, t .outcome) (rw more at (v .same))
 
     added : take (r .len) l′ ≡ words (h .slots) (v .calls ++ this .calls)
-    added = t .holds ∙ ap (λ (ws : List ℕ). ws ++ words (h .slots) (this .calls)) (v .holds) ∙ sym (words-append (h .slots) (v .calls) (this .calls))
+    added = t .appended .holds ∙ ap (λ (ws : List ℕ). ws ++ words (h .slots) (this .calls)) (v .holds) ∙ sym (words-append (h .slots) (v .calls) (this .calls))
+
+    at-most : (o : Outcome) → r .outcome ≡ o → r .len ≤ len + most o
+    at-most o e = rw (← e, t .outcome) (omega (arith, t .appended .len, turn-words (h .slots) h (add start i) n (fetch (add start i) guest i)))
 
     pub size-4 : r .size ≤ 4
     size-4 = rw (t .size) (turn-length h (add start i) n (fetch (add start i) guest i))
@@ -101,10 +91,10 @@ module _ {h : Host} {guest : List ℕ} {start limit : ℕ} {l : List ℕ} {len i
         let f = v .near in
         let m = v .room in
         let k = size-4 in
-        let p : r .len ≤ len + 29 = rw (← t .outcome, e) at (t .room) in
+        let p : r .len ≤ len + 29 = at-most GoOn e in
         record {
           calls = v .calls ++ this .calls;
-          long = t .long;
+          long = t .appended .long;
           holds = added;
           upto = omega arith;
           near = omega arith;
@@ -119,9 +109,9 @@ module _ {h : Host} {guest : List ℕ} {start limit : ℕ} {l : List ℕ} {len i
     ended o count index stop e a b c d =
         let u = v .upto in
         let m = v .room in
-        let p : r .len ≤ len + most o = rw (← t .outcome, e) at (t .room) in
+        let p = at-most o e in
         let z = ap (in-front (v .calls)) (sym d) ∙ one o e in
-        rw (← z) (record { long = t .long; holds = added; count = refl; stop = refl; pc = refl; few = omega arith; room = omega arith })
+        rw (← z) (record { long = t .appended .long; holds = added; count = refl; stop = refl; pc = refl; few = omega arith; room = omega arith })
 
     pub by-end : r .outcome ≡ End → Done l′ (record { len = r .len; count = n + 1; index = i + r .size; stop = Ended })
     unfolding step most most-walked

@@ -17,8 +17,7 @@ use Rattle.jit_arm64.specs.declared.block.Outcome.{Outcome}
 use Rattle.jit_arm64.specs.declared.block.Outcome.the-variants.{GoOn, End, Help, Pass, Lack}
 use Rattle.jit_arm64.specs.declared.block.Stop.{Stop}
 use Rattle.jit_arm64.specs.declared.block.Stop.the-variants.{Limit, Ended, Helper, Uncovered, NotFetched}
-use Rattle.a64.specs.Emitter.{max-words, held}
-use Rattle.jit_arm64.specs.declared.block.Part.{Part}
+use Rattle.a64.specs.Emitter.{max-words}
 use Rattle.jit_arm64.specs.declared.block.Turned.{Turned}
 use Rattle.jit_arm64.specs.declared.block.Walked.{Walked}
 use Rattle.jit_arm64.specs.declared.block.NativeBlock.{NativeBlock}
@@ -72,6 +71,10 @@ unfoldable pub after : EmitFlow → Emission → Emission → ℕ → Turn
 after Continue e helper n = turned (e .calls) n GoOn
 after Terminate e helper n = turned (e .calls) n End
 after None e helper n = turned (e .calls ++ helper .calls) n (none-outcome (helper .flow))
+
+-- the helper's part of it
+abbrev pub help-turn : Emission → ℕ → Turn
+help-turn helper n = turned (helper .calls) n (none-outcome (helper .flow))
 
 unfoldable pub instr16-turn : Host → ℕ → ℕ → ℕ → Turn
 instr16-turn h pc emitted instr =
@@ -148,26 +151,18 @@ compile-native-block h guest pc limit =
 
 -- ---- what the code's parts answer
 
--- the words of one instruction, emitted by itself
-pub record PartOf (slots : ℕ) (t : Turn) (p : Part) : Type 0 where
-  pub held-words : held (p .em) ≡ words slots (t .calls)
-  pub outcome : p .outcome ≡ t .outcome
-
--- the most words of a turn, by what came of it
-unfoldable pub most : Outcome → ℕ
-most GoOn = 29
-most End = 29
-most Help = 33
-most Pass = 29
-most Lack = 29
+-- the words ws behind the first n of l: then the first r of l′
+pub record Appended (l : List ℕ) (n : ℕ) (l′ : List ℕ) (r : ℕ) (ws : List ℕ) : Type 0 where
+  pub long : length l′ ≡ max-words
+  pub holds : take r l′ ≡ take n l ++ ws
+  pub len : r ≡ n + length ws
+  pub room : r ≤ max-words
 
 -- one turn's words behind the first n of l
 pub record TurnedOf (slots : ℕ) (t : Turn) (l : List ℕ) (n : ℕ) (l′ : List ℕ) (r : Turned) : Type 0 where
-  pub long : length l′ ≡ max-words
-  pub holds : take (r .len) l′ ≡ take n l ++ words slots (t .calls)
+  pub appended : Appended l n l′ (r .len) (words slots (t .calls))
   pub size : r .size ≡ t .size
   pub outcome : r .outcome ≡ t .outcome
-  pub room : r .len ≤ n + most (t .outcome)
 
 -- the most words of all instructions: 29 for each, or a helper's behind 63 others
 unfoldable pub most-walked : Stop → ℕ

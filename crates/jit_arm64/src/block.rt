@@ -1,15 +1,20 @@
 // `compile_native_block`: limit, alignment and fetch around the emitters.
 ghost use mathlib.Core.Path.{_≡_};
-ghost use Prim.Native.Nat.{ℕ, _+_, _*_, _<_, _≤_, min};
+ghost use Prim.Native.Nat.{ℕ, _+_, _*_, _≤_, min};
 ghost use lib.ListN.{length};
-ghost use Rattle.a64.specs.Emitter.{max-words, held, emitted-all};
-ghost use Rattle.emit_native.specs.Calls.{groups};
-ghost use Rattle.jit_arm64.specs.Block.{max-steps, fetch, fetch-upper, instr16-turn, instr-turn, turn, none-outcome, walk, return-calls, next-calls, end-calls, whole-walk, PartOf, TurnedOf, WalkedOf, BlockOf};
-use emit_native::EmitFlow;
-use emit_native::Emitted;
-use emit_native::Host;
+ghost use Rattle.a64.specs.Emitter.{max-words};
+ghost use Rattle.emit_native.specs.Calls as C;
+ghost use Rattle.emit_native.specs.Decode.{decode32};
+ghost use Rattle.emit_native.specs.TermHelper.{emit-native-term-helper16, emit-native-term-helper32};
+ghost use Rattle.jit_arm64.specs.Block.{max-steps, fetch, fetch-upper, instr16-turn, instr-turn, help-turn, turn, none-outcome, walk, return-calls, next-calls, end-calls, whole-walk, most-walked, Appended, TurnedOf, WalkedOf, BlockOf};
 use a64::A64Emitter;
 use a64::MAX_WORDS;
+use emit_native::EmitFlow;
+use emit_native::Host;
+use emit_native::instr16;
+use emit_native::instr32;
+use emit_native::term_helper;
+use isa::decode::Decoded32;
 
 // `max_steps.min(64)`
 const MAX_STEPS: u32 = 64;
@@ -37,12 +42,6 @@ pub enum Stop {
     Helper,
     Uncovered,
     NotFetched,
-}
-
-// One instruction's words, and what came of it.
-pub struct Part {
-    pub em: A64Emitter,
-    pub outcome: Outcome,
 }
 
 // The count of the block's words after an instruction, its length in bytes, and what came of it.
@@ -102,83 +101,135 @@ fn fetch(pc: u64, guest: &[u8], i: usize) -> Fetched
     Fetched::Missing
 }
 
-// Behind an instruction that is not inline: whether the helper's emitter took it.
-fn helped(out: Emitted) -> Part
-    ensures { λ r. ⌜ (r .em ≡ out .em) × (r .outcome ≡ none-outcome (out .flow)) ⌝ }
+// Whether the helper's emitter took the instruction.
+fn helped(flow: EmitFlow) -> Outcome
+    ensures { λ r. ⌜ r ≡ none-outcome flow ⌝ }
 {
-    let flow = out.flow;
-    let em = out.em;
     match flow {
-        EmitFlow::Terminate => Part {
-            em,
-            outcome: Outcome::Help,
-        },
-        EmitFlow::Continue => Part {
-            em,
-            outcome: Outcome::Pass,
-        },
-        EmitFlow::None => Part {
-            em,
-            outcome: Outcome::Pass,
-        },
+        EmitFlow::Terminate => Outcome::Help,
+        EmitFlow::Continue => Outcome::Pass,
+        EmitFlow::None => Outcome::Pass,
     }
 }
 
-fn instr16_part(host: Host, pc: u64, emitted: u32, instr: u16) -> Part
-    requires { ⌜ host .slots ≤ 32512 ⌝ }
-    ensures { λ r. ⌜ PartOf (host .slots) (instr16-turn host pc emitted instr) r ⌝ }
+// The helper's words for an instruction of 16 bits that is not inline.
+fn help16(
+    words: &mut [u32; MAX_WORDS],
+    at: usize,
+    host: Host,
+    pc: u64,
+    emitted: u32,
+    instr: u16,
+) -> Turned
+    requires { ⌜ (length (now words) ≡ max-words) × (host .slots ≤ 32512) × (at + length (C.words (host .slots) (emit-native-term-helper16 host pc instr emitted .calls)) ≤ max-words) ⌝ }
+    ensures { λ r. ⌜ TurnedOf (host .slots) (help-turn (emit-native-term-helper16 host pc instr emitted) 2) (now (words .entry)) at (now (words .exit)) r ⌝ }
 {
-    let out = emit_native::instr16::emit_native_instr16(A64Emitter::new(), host, pc, instr);
+    let out = term_helper::emit_native_term_helper16(A64Emitter::new(), host, pc, instr, emitted);
     let flow = out.flow;
     let em = out.em;
+    let len = a64::append(words, at, em);
+    Turned {
+        len,
+        size: 2,
+        outcome: helped(flow),
+    }
+}
+
+// The helper's words for an instruction of 32 bits that is not inline.
+fn help32(
+    words: &mut [u32; MAX_WORDS],
+    at: usize,
+    host: Host,
+    pc: u64,
+    emitted: u32,
+    instr: u32,
+    d: Decoded32,
+) -> Turned
+    requires { ⌜ (length (now words) ≡ max-words) × (host .slots ≤ 32512) × (d ≡ decode32 instr) × (at + length (C.words (host .slots) (emit-native-term-helper32 host pc instr (decode32 instr) emitted .calls)) ≤ max-words) ⌝ }
+    ensures { λ r. ⌜ TurnedOf (host .slots) (help-turn (emit-native-term-helper32 host pc instr (decode32 instr) emitted) 4) (now (words .entry)) at (now (words .exit)) r ⌝ }
+{
+    let out = term_helper::emit_native_term_helper32(
+        A64Emitter::new(),
+        host,
+        pc,
+        instr,
+        d,
+        emitted,
+    );
+    let flow = out.flow;
+    let em = out.em;
+    let len = a64::append(words, at, em);
+    Turned {
+        len,
+        size: 4,
+        outcome: helped(flow),
+    }
+}
+
+// One instruction of 16 bits: its words, emitted by themselves, behind the block's.
+fn compile_instr16(
+    words: &mut [u32; MAX_WORDS],
+    at: usize,
+    host: Host,
+    pc: u64,
+    emitted: u32,
+    instr: u16,
+) -> Turned
+    requires { ⌜ (length (now words) ≡ max-words) × (host .slots ≤ 32512) × (at ≤ 29 * 63) ⌝ }
+    ensures { λ r. ⌜ TurnedOf (host .slots) (instr16-turn host pc emitted instr) (now (words .entry)) at (now (words .exit)) r ⌝ }
+{
+    let out = instr16::emit_native_instr16(A64Emitter::new(), host, pc, instr);
+    let flow = out.flow;
+    let em = out.em;
+    let len = a64::append(words, at, em);
     match flow {
-        EmitFlow::Continue => Part {
-            em,
+        EmitFlow::Continue => Turned {
+            len,
+            size: 2,
             outcome: Outcome::GoOn,
         },
-        EmitFlow::Terminate => Part {
-            em,
+        EmitFlow::Terminate => Turned {
+            len,
+            size: 2,
             outcome: Outcome::End,
         },
-        EmitFlow::None => helped(emit_native::term_helper::emit_native_term_helper16(
-            em,
-            host,
-            pc,
-            instr,
-            emitted,
-        )),
+        EmitFlow::None => help16(words, len, host, pc, emitted, instr),
     }
 }
 
-fn instr_part(host: Host, pc: u64, emitted: u32, instr: u32) -> Part
-    requires { ⌜ host .slots ≤ 32512 ⌝ }
-    ensures { λ r. ⌜ PartOf (host .slots) (instr-turn host pc emitted instr) r ⌝ }
+// One instruction of 32 bits.
+fn compile_instr32(
+    words: &mut [u32; MAX_WORDS],
+    at: usize,
+    host: Host,
+    pc: u64,
+    emitted: u32,
+    instr: u32,
+) -> Turned
+    requires { ⌜ (length (now words) ≡ max-words) × (host .slots ≤ 32512) × (at ≤ 29 * 63) ⌝ }
+    ensures { λ r. ⌜ TurnedOf (host .slots) (instr-turn host pc emitted instr) (now (words .entry)) at (now (words .exit)) r ⌝ }
 {
     let d = isa::decode::decode32(instr);
-    let out = emit_native::instr32::emit_native_instr(A64Emitter::new(), host.slots, pc, instr, d);
+    let out = instr32::emit_native_instr(A64Emitter::new(), host.slots, pc, instr, d);
     let flow = out.flow;
     let em = out.em;
+    let len = a64::append(words, at, em);
     match flow {
-        EmitFlow::Continue => Part {
-            em,
+        EmitFlow::Continue => Turned {
+            len,
+            size: 4,
             outcome: Outcome::GoOn,
         },
-        EmitFlow::Terminate => Part {
-            em,
+        EmitFlow::Terminate => Turned {
+            len,
+            size: 4,
             outcome: Outcome::End,
         },
-        EmitFlow::None => helped(emit_native::term_helper::emit_native_term_helper32(
-            em,
-            host,
-            pc,
-            instr,
-            d,
-            emitted,
-        )),
+        EmitFlow::None => help32(words, len, host, pc, emitted, instr, d),
     }
 }
 
-// One instruction, emitted by itself and appended to the block's words.
+// The instruction at an index of the guest bytes.
 fn compile_instr(
     words: &mut [u32; MAX_WORDS],
     at: usize,
@@ -188,7 +239,7 @@ fn compile_instr(
     host: Host,
     emitted: u32,
 ) -> Turned
-    requires { ⌜ (length (now words) ≡ max-words) × (host .slots ≤ 32512) × (at ≤ 29 * emitted) × (emitted < max-steps) ⌝ }
+    requires { ⌜ (length (now words) ≡ max-words) × (host .slots ≤ 32512) × (at ≤ 29 * 63) ⌝ }
     ensures { λ r. ⌜ TurnedOf (host .slots) (turn host pc emitted (fetch pc (now (guest .entry)) i)) (now (words .entry)) at (now (words .exit)) r ⌝ }
 {
     let found = fetch(pc, guest, i);
@@ -198,39 +249,13 @@ fn compile_instr(
             size: 0,
             outcome: Outcome::Lack,
         },
-        Fetched::Half(instr) => {
-            let part = instr16_part(host, pc, emitted, instr);
-            let outcome = part.outcome;
-            let em = part.em;
-            let len = a64::append(words, at, em);
-            Turned {
-                len,
-                size: 2,
-                outcome,
-            }
-        }
-        Fetched::Word(instr) => {
-            let part = instr_part(host, pc, emitted, instr);
-            let outcome = part.outcome;
-            let em = part.em;
-            let len = a64::append(words, at, em);
-            Turned {
-                len,
-                size: 4,
-                outcome,
-            }
-        }
+        Fetched::Half(instr) => compile_instr16(words, at, host, pc, emitted, instr),
+        Fetched::Word(instr) => compile_instr32(words, at, host, pc, emitted, instr),
     }
 }
 
 // The instructions from `start` on, at most `limit` of them.
-fn walk(
-    words: &mut [u32; MAX_WORDS],
-    guest: &[u8],
-    start: u64,
-    limit: u32,
-    host: Host,
-) -> Walked
+fn walk(words: &mut [u32; MAX_WORDS], guest: &[u8], start: u64, limit: u32, host: Host) -> Walked
     requires { ⌜ (length (now words) ≡ max-words) × (host .slots ≤ 32512) × (limit ≤ max-steps) ⌝ }
     ensures { λ r. ⌜ WalkedOf (host .slots) start (walk host (now (guest .entry)) start limit 0 0) (now (words .exit)) r ⌝ }
 {
@@ -270,31 +295,34 @@ fn walk(
 }
 
 // The count into X1, RET.
-fn emit_return(em: A64Emitter, count: u32) -> A64Emitter
-    ensures { λ r. ⌜ ((slots : ℕ) → held r ≡ emitted-all (held em) (groups slots (return-calls count))) ⌝ }
+fn emit_return(words: &mut [u32; MAX_WORDS], at: usize, count: u32) -> usize
+    requires { ⌜ (length (now words) ≡ max-words) × (at + 2 ≤ max-words) × (count ≤ max-steps) ⌝ }
+    ensures { λ r. ⌜ ((slots : ℕ) → Appended (now (words .entry)) at (now (words .exit)) r (C.words slots (return-calls count))) ⌝ }
 {
-    let em = em.mov_imm64(1, count as u64);
-    em.emit(A64Emitter::ret())
+    let n = a64::mov_imm64_at(words, at, 1, count as u64);
+    a64::emit_at(words, n, A64Emitter::ret())
 }
 
 // The same, behind the next PC into X0.
-fn emit_next(em: A64Emitter, pc: u64, count: u32) -> A64Emitter
-    ensures { λ r. ⌜ ((slots : ℕ) → held r ≡ emitted-all (held em) (groups slots (next-calls pc count))) ⌝ }
+fn emit_next(words: &mut [u32; MAX_WORDS], at: usize, pc: u64, count: u32) -> usize
+    requires { ⌜ (length (now words) ≡ max-words) × (at + 6 ≤ max-words) × (count ≤ max-steps) ⌝ }
+    ensures { λ r. ⌜ ((slots : ℕ) → Appended (now (words .entry)) at (now (words .exit)) r (C.words slots (next-calls pc count))) ⌝ }
 {
-    let em = em.mov_imm64(0, pc);
-    emit_return(em, count)
+    let n = a64::mov_imm64_at(words, at, 0, pc);
+    emit_return(words, n, count)
 }
 
 // The end of a block, by why the walk stopped.
-fn emit_end(em: A64Emitter, stop: Stop, pc: u64, count: u32) -> A64Emitter
-    ensures { λ r. ⌜ ((slots : ℕ) → held r ≡ emitted-all (held em) (groups slots (end-calls stop pc count))) ⌝ }
+fn emit_end(words: &mut [u32; MAX_WORDS], at: usize, stop: Stop, pc: u64, count: u32) -> usize
+    requires { ⌜ (length (now words) ≡ max-words) × (at ≤ most-walked stop) × (count ≤ max-steps) ⌝ }
+    ensures { λ r. ⌜ ((slots : ℕ) → Appended (now (words .entry)) at (now (words .exit)) r (C.words slots (end-calls stop pc count))) ⌝ }
 {
     match stop {
-        Stop::Helper => em,
-        Stop::Ended => emit_return(em, count),
-        Stop::Limit => emit_next(em, pc, count),
-        Stop::Uncovered => emit_next(em, pc, count),
-        Stop::NotFetched => emit_next(em, pc, count),
+        Stop::Helper => at,
+        Stop::Ended => emit_return(words, at, count),
+        Stop::Limit => emit_next(words, at, pc, count),
+        Stop::Uncovered => emit_next(words, at, pc, count),
+        Stop::NotFetched => emit_next(words, at, pc, count),
     }
 }
 
@@ -319,11 +347,6 @@ pub fn compile_native_block(
     let count = walked.count;
     let stop = walked.stop;
     let next = std::num::wrapping_add_u64(pc, walked.index);
-    let end = emit_end(A64Emitter::new(), stop, next, count);
-    let len = a64::append(words, walked.len, end);
-    NativeBlock {
-        len,
-        count,
-        stop,
-    }
+    let len = emit_end(words, walked.len, stop, next, count);
+    NativeBlock { len, count, stop }
 }

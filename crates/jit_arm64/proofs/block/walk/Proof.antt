@@ -17,7 +17,8 @@ loop-holds c = begin _ _ _ _ _ (c .before .pre .0)
 compile-instr-requires : tie.Need-compile-instr-requires Inv-loop μ-loop
 compile-instr-requires c κs =
     let v = c .before .before .before .loop .inv in
-    (v .long, c .before .before .before .before .before .pre .1, v .room, omega (arith, c .before .before .before .before .before .pre .2, v .upto, c .before .before .if1 .left))
+    let s = c .before .before .before .before .before in
+    (v .long, s .pre .1, omega (arith, s .pre .2, v .room, v .upto, c .before .before .if1 .left))
 
 add-i : tie.Need-add-i Inv-loop μ-loop
 add-i c =
