@@ -4,12 +4,14 @@ ghost use Prim.Native.Nat.{ℕ, _+_, _*_, _<_, _≤_, min};
 ghost use lib.ListN.{length};
 ghost use Rattle.a64.specs.Emitter.{max-words, held, emitted-all};
 ghost use Rattle.emit_native.specs.Calls.{groups};
-ghost use Rattle.jit_arm64.specs.Block.{max-steps, fetch, fetch-upper, instr16-turn, instr-turn, turn, none-outcome, walk, return-calls, next-calls, end-calls, whole-walk, PartOf, TurnedOf, WalkedOf, BlockOf};
+ghost use Rattle.fetch_window.specs.Window.{index};
+ghost use Rattle.jit_arm64.specs.Block.{max-steps, fetch, instr16-turn, instr-turn, turn, none-outcome, walk, return-calls, next-calls, end-calls, whole-walk, PartOf, TurnedOf, WalkedOf, BlockOf};
+use crate::fetch;
+use a64::A64Emitter;
+use a64::MAX_WORDS;
 use emit_native::EmitFlow;
 use emit_native::Emitted;
 use emit_native::Host;
-use a64::A64Emitter;
-use a64::MAX_WORDS;
 
 // `max_steps.min(64)`
 const MAX_STEPS: u32 = 64;
@@ -65,41 +67,6 @@ pub struct NativeBlock {
     pub len: usize,
     pub count: u32,
     pub stop: Stop,
-}
-
-fn fetch_upper(guest: &[u8], i: usize) -> Fetched
-    requires { ⌜ i + 2 ≤ length (now guest) ⌝ }
-    ensures { λ r. ⌜ r ≡ fetch-upper (now (guest .entry)) i ⌝ }
-{
-    let left = guest.len() - i;
-    if left < 4 {
-        return Fetched::Missing;
-    }
-    let low = le::load16(guest, i) as u32;
-    let upper = le::load16(guest, i + 2) as u32;
-    Fetched::Word(upper * 65536 + low)
-}
-
-fn fetch(pc: u64, guest: &[u8], i: usize) -> Fetched
-    ensures { λ r. ⌜ r ≡ fetch pc (now (guest .entry)) i ⌝ }
-{
-    let odd = pc % 2;
-    if odd == 0 {
-        let n = guest.len();
-        if n < 2 {
-            return Fetched::Missing;
-        }
-        if n - 2 < i {
-            return Fetched::Missing;
-        }
-        let w = le::load16(guest, i);
-        let low = w % 4;
-        if low == 3 {
-            return fetch_upper(guest, i);
-        }
-        return Fetched::Half(w);
-    }
-    Fetched::Missing
 }
 
 // Behind an instruction that is not inline: whether the helper's emitter took it.
@@ -183,15 +150,15 @@ fn compile_instr(
     words: &mut [u32; MAX_WORDS],
     at: usize,
     guest: &[u8],
-    i: usize,
+    start: u64,
     pc: u64,
     host: Host,
     emitted: u32,
 ) -> Turned
     requires { ⌜ (length (now words) ≡ max-words) × (host .slots ≤ 32512) × (at ≤ 29 * emitted) × (emitted < max-steps) ⌝ }
-    ensures { λ r. ⌜ TurnedOf (host .slots) (turn host pc emitted (fetch pc (now (guest .entry)) i)) (now (words .entry)) at (now (words .exit)) r ⌝ }
+    ensures { λ r. ⌜ TurnedOf (host .slots) (turn host pc emitted (fetch pc (now (guest .entry)) (index start pc))) (now (words .entry)) at (now (words .exit)) r ⌝ }
 {
-    let found = fetch(pc, guest, i);
+    let found = fetch::fetch(guest, start, pc);
     match found {
         Fetched::Missing => Turned {
             len: at,
@@ -224,13 +191,7 @@ fn compile_instr(
 }
 
 // The instructions from `start` on, at most `limit` of them.
-fn walk(
-    words: &mut [u32; MAX_WORDS],
-    guest: &[u8],
-    start: u64,
-    limit: u32,
-    host: Host,
-) -> Walked
+fn walk(words: &mut [u32; MAX_WORDS], guest: &[u8], start: u64, limit: u32, host: Host) -> Walked
     requires { ⌜ (length (now words) ≡ max-words) × (host .slots ≤ 32512) × (limit ≤ max-steps) ⌝ }
     ensures { λ r. ⌜ WalkedOf (host .slots) start (walk host (now (guest .entry)) start limit 0 0) (now (words .exit)) r ⌝ }
 {
@@ -242,7 +203,7 @@ fn walk(
             break Stop::Limit;
         }
         let pc = std::num::wrapping_add_u64(start, i as u64);
-        let t = compile_instr(words, len, guest, i, pc, host, n);
+        let t = compile_instr(words, len, guest, start, pc, host, n);
         len = t.len;
         let outcome = t.outcome;
         match outcome {
@@ -321,9 +282,5 @@ pub fn compile_native_block(
     let next = std::num::wrapping_add_u64(pc, walked.index);
     let end = emit_end(A64Emitter::new(), stop, next, count);
     let len = a64::append(words, walked.len, end);
-    NativeBlock {
-        len,
-        count,
-        stop,
-    }
+    NativeBlock { len, count, stop }
 }
