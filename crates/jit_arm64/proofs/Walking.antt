@@ -16,8 +16,8 @@ use Rattle.emit_native.specs.Instr32.{emit-native-instr}
 use Rattle.emit_native.specs.TermHelper.{emit-native-term-helper16, emit-native-term-helper32}
 use Rattle.fetch_window.specs.Window.{index}
 use Rattle.fetch_window.proofs.Reading.{index-add}
-use Rattle.jit_arm64.specs.declared.block.Fetched.{Fetched}
-use Rattle.jit_arm64.specs.declared.block.Fetched.the-variants.{Missing, Half, Word}
+use Rattle.jit_arm64.specs.declared.fetch.Fetched.{Fetched}
+use Rattle.jit_arm64.specs.declared.fetch.Fetched.the-variants.{Missing, Half, Word}
 use Rattle.jit_arm64.specs.declared.block.Outcome.{Outcome}
 use Rattle.jit_arm64.specs.declared.block.Outcome.the-variants.{GoOn, End, Help, Pass, Lack}
 use Rattle.jit_arm64.specs.declared.block.Stop.{Stop}

@@ -6,7 +6,8 @@ ghost use Rattle.a64.specs.Emitter.{max-words, held, emitted-all};
 ghost use Rattle.emit_native.specs.Calls.{groups};
 ghost use Rattle.fetch_window.specs.Window.{index};
 ghost use Rattle.jit_arm64.specs.Block.{max-steps, fetch, instr16-turn, instr-turn, turn, none-outcome, walk, return-calls, next-calls, end-calls, whole-walk, PartOf, TurnedOf, WalkedOf, BlockOf};
-use crate::fetch;
+use crate::fetch::Fetched;
+use crate::fetch::fetch;
 use a64::A64Emitter;
 use a64::MAX_WORDS;
 use emit_native::EmitFlow;
@@ -15,13 +16,6 @@ use emit_native::Host;
 
 // `max_steps.min(64)`
 const MAX_STEPS: u32 = 64;
-
-// What stands at an index of the guest bytes: a halfword is missing, or a 16-bit or a 32-bit instruction.
-pub enum Fetched {
-    Missing,
-    Half(u16),
-    Word(u32),
-}
 
 // What comes of an instruction: the block goes on, ends, or ends by a helper; it is not covered, or lacks a halfword.
 pub enum Outcome {
@@ -158,7 +152,7 @@ fn compile_instr(
     requires { ⌜ (length (now words) ≡ max-words) × (host .slots ≤ 32512) × (at ≤ 29 * emitted) × (emitted < max-steps) ⌝ }
     ensures { λ r. ⌜ TurnedOf (host .slots) (turn host pc emitted (fetch pc (now (guest .entry)) (index start pc))) (now (words .entry)) at (now (words .exit)) r ⌝ }
 {
-    let found = fetch::fetch(guest, start, pc);
+    let found = fetch(guest, start, pc);
     match found {
         Fetched::Missing => Turned {
             len: at,

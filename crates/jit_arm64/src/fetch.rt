@@ -4,9 +4,15 @@ ghost use Prim.Native.Nat.{_+_, _≤_};
 ghost use lib.ListN.{length};
 ghost use Rattle.fetch_window.specs.Window.{index};
 ghost use Rattle.jit_arm64.specs.Block.{half, fetch-upper, fetch};
-use crate::block::Fetched;
 use fetch_window::Halfword;
 use fetch_window::read_u16;
+
+// What stands at a PC: a halfword is missing, or a 16-bit or a 32-bit instruction.
+pub enum Fetched {
+    Missing,
+    Half(u16),
+    Word(u32),
+}
 
 // The 32-bit instruction whose lower halfword is `instr16`.
 fn fetch_upper(guest: &[u8], start: u64, pc: u64, instr16: u16) -> Fetched

@@ -5,7 +5,7 @@ use Rattle.emit_native.specs.Decode.{decode32}
 use Rattle.emit_native.specs.Instr32.{emit-native-instr}
 use Rattle.emit_native.specs.Instr16.{emit-native-instr16}
 use Rattle.jit_arm64.specs.Block.{turn, instr16-turn, instr-turn}
-use Rattle.jit_arm64.specs.declared.block.Fetched.the-variants.{Half, Word}
+use Rattle.jit_arm64.specs.declared.fetch.Fetched.the-variants.{Half, Word}
 use borrow.Author.Needs.{needs}
 use Rattle.jit_arm64.proofs.block.compile_instr.Statement.{statement}
 use Rattle.jit_arm64.proofs.block.compile_instr.Tie as tie
