@@ -1,5 +1,8 @@
--- `FetchWindow::read_u16` meets its contract: a walk of its MIR, by hand. The struct is taken apart, and `halfword_at_pc` is called on the slice and the numbers. All that the proof knows of `halfword_at_pc` is that it meets its contract.
--- The struct is Copy: what it owns is had twice, one copy is kept whole for the exit, and of the other what bytes owns goes to the callee, beside the lifetime's token, which comes back.
+-- `FetchWindow::read_u16` meets its contract: a walk of its MIR, by hand. The struct is taken apart, and
+-- `halfword_at_pc` is called on the slice and the numbers. All that the proof knows of `halfword_at_pc` is that it
+-- meets its contract.
+-- The struct is Copy: what it owns is had twice, one copy is kept whole for the exit, and of the other what bytes
+-- owns goes to the callee, beside the lifetime's token, which comes back.
 -- Assumes nothing.
 use mathlib.Core.Path.{_≡_, refl}
 use Prim.Native.Nat.{ℕ, _<_, _^_}
@@ -79,11 +82,17 @@ module _ {M : Type 1} (𝓤 : URA M) (H : Heap 𝓤) (A : Atoms 𝓤) (W : Given
   abbrev v : Val
   v = sliceVal (d .bytes .ptr) (length (d .bytes .now))
 
+  abbrev own-passed : Vals read.signature (κ, tt)
+  own-passed = (mach ∷ [], (vint w64 pc ∷ [], tt))
+
+  abbrev Entry : SProp 𝓤
+  Entry = onEntry 𝓤 H A read.signature (κ, tt) (q, tt) (d, (pc, tt)) own-passed
+
   abbrev found : Halfword
   found = read-u16 (now (d .bytes)) (d .start) pc
 
   abbrev Post : Val → SProp 𝓤
-  Post = walkOf 𝓤 H A read.ended stayed (read.clauses 𝓤 H A mem run) .post (((κ, tt), (q, tt), tt, (d, (pc, tt)), (mach ∷ [], (vint w64 pc ∷ [], tt))), tt)
+  Post = walkOf 𝓤 H A read.ended stayed (read.clauses 𝓤 H A mem run) .post (((κ, tt), (q, tt), tt, (d, (pc, tt)), own-passed), tt)
 
   abbrev Own : Fml
   Own = B (κ, tt) .own d (mach ∷ [])
@@ -109,9 +118,9 @@ module _ {M : Type 1} (𝓤 : URA M) (H : Heap 𝓤) (A : Atoms 𝓤) (W : Given
   asked = qed W ((‵ (flft κ q) ⊛ ‵ ftrue) ∷ ‵ (owns (ShrSlice (named 0) κ u8 ∷ u64 ∷ u64 ∷ []) (d .bytes, (d .start, (pc, tt))) passed) ∷ []) ∵ join ! $ frame ! $ done !
 
   -- what the struct owns gives what the callee asks, and is kept
-  apart : d .start < 2 ^ 64 → ent 𝓤 (onEntry 𝓤 H A read.signature (κ, tt) (q, tt) (d, (pc, tt)) (mach ∷ [], (vint w64 pc ∷ [], tt))) (sep 𝓤 (AtPc 𝓤 H A mem run .pre to) (sem 𝓤 H A Own))
+  apart : d .start < 2 ^ 64 → ent 𝓤 Entry (sep 𝓤 (AtPc 𝓤 H A mem run .pre to) (sem 𝓤 H A Own))
   apart fits =
-      qed W ((‵ (flft κ q) ⊛ ‵ ftrue) ∷ ‵ (owns (B (κ, tt) ∷ u64 ∷ []) (d, (pc, tt)) (mach ∷ [], (vint w64 pc ∷ [], tt))) ∷ []) ∵
+      qed W ((‵ (flft κ q) ⊛ ‵ ftrue) ∷ ‵ (owns (B (κ, tt) ∷ u64 ∷ []) (d, (pc, tt)) own-passed) ∷ []) ∵
       move ! (1 ∷ []) $ fsplit ! $ move ! (1 ∷ []) $ drop ! $ use1 W (‵ Own ⊛ ‵ Own) (LL.copy D (T′.the-copy (namedLft 1 0 tt (κ, tt))) 𝓤 H A W .twice d (mach ∷ [])) $ split ! $
       use1 W (given (mach ∷ [] ≡ mach ∷ []) (‵ (all-own (D .parts) L vd))) (own-open 𝓤 H A W D L vd mach) $ learn ! (λ _. use1 W (‵ (ownAt (D .parts) L 0 (d .bytes)) ⊛ ‵ (rest (D .parts) L 0 vd)) (own-out 𝓤 H A W (D .parts) L 0 vd) $ split ! $
       -- [what bytes owns; what start owns; what the struct owns; the token]
@@ -125,13 +134,13 @@ module _ {M : Type 1} (𝓤 : URA M) (H : Heap 𝓤) (A : Atoms 𝓤) (W : Given
   exits : (r : Halfword) (u : Val) → r ≡ found → ent 𝓤 (⋆ 𝓤 H A (‵ (S.the-row .own r (u ∷ [])) ∷ (‵ (flft κ q) ⊛ ‵ ftrue) ∷ ‵ Own ∷ [])) (Post u)
   exits r u e =
       qed W (‵ (S.the-row .own r (u ∷ [])) ∷ (‵ (flft κ q) ⊛ ‵ ftrue) ∷ ‵ Own ∷ []) ∵
-      suffices ! _ (ends-at 𝓤 H A read.ended stayed (read.clauses 𝓤 H A mem run) W (((κ, tt), (q, tt), tt, (d, (pc, tt)), (mach ∷ [], (vint w64 pc ∷ [], tt))), tt) u r (tt, (tt, tt)) (tt, (tt, tt))) $ says ! e $
+      suffices ! _ (ends-at 𝓤 H A read.ended stayed (read.clauses 𝓤 H A mem run) W (((κ, tt), (q, tt), tt, (d, (pc, tt)), own-passed), tt) u r (tt, (tt, tt)) (tt, (tt, tt))) $ says ! e $
       move ! (1 ∷ []) $ frame ! $ nothing ! $ owned ! u64 (Is u64) (uint-makes 𝓤 H A W w64) pc _ (refl, ok) $ fjoin ! $ move ! (2 ∷ 0 ∷ []) $ fjoin ! $ frame ! $ done !
 
   module _ (C : Calls 𝓤 H) (Λ : Loops 𝓤 H) (fm : FmC 𝓤 H (W .laws) C) (known : Triple 𝓤 (C #fetch-window·halfword-at-pc) (AtPc 𝓤 H A mem run)) where
-    walk : Holds (hasTy (T′.mir (named 0)) mach) × WT mach → ent 𝓤 (onEntry 𝓤 H A read.signature (κ, tt) (q, tt) (d, (pc, tt)) (mach ∷ [], (vint w64 pc ∷ [], tt))) (WpFn 𝓤 H C Λ code.function (mach ∷ vint w64 pc ∷ []) Post)
+    walk : Holds (hasTy (T′.mir (named 0)) mach) × WT mach → ent 𝓤 Entry (WpFn 𝓤 H C Λ code.function (mach ∷ vint w64 pc ∷ []) Post)
     walk wt =
-        qed W (raw (onEntry 𝓤 H A read.signature (κ, tt) (q, tt) (d, (pc, tt)) (mach ∷ [], (vint w64 pc ∷ [], tt))) ∷ []) ∵ enter ! C Λ code.function (mach ∷ vint w64 pc ∷ []) _ $
+        qed W (raw Entry ∷ []) ∵ enter ! C Λ code.function (mach ∷ vint w64 pc ∷ []) _ $
         alloc1 ! (λ l₀. alloc1 ! (λ l₁. alloc1 ! (λ l₂. alloc1 ! (λ l₃. alloc1 ! (λ l₄. alloc0 ! $ params1 ! $ pass1 ! (init ! 6 refl wt) $ pass1 ! (init ! 4 refl (tt, record { fits = ok })) $ pass0 ! $
         assigns ! (of-opd ! (load ! (from ! (fld ! refl (stop !))) (look-in ! 6 (sub ! 0 refl (whole !))))) (from ! (stop !)) (init ! 2 refl (tt, wt .1 .0)) $
         assigns ! (of-opd ! (load ! (from ! (fld ! refl (stop !))) (look-in ! 6 (sub ! 1 refl (whole !))))) (from ! (stop !)) (init ! 0 refl (tt, wt .1 .1 .0)) $
@@ -139,7 +148,7 @@ module _ {M : Type 1} (𝓤 : URA M) (H : Heap 𝓤) (A : Atoms 𝓤) (W : Given
         calls-at ! fm (AtPc 𝓤 H A mem run) known to (and-then ! (load ! (from ! (stop !)) (look ! 4 refl)) (and-then ! (load ! (from ! (stop !)) (look ! 2 refl)) (and-then ! (load ! (from ! (stop !)) (look ! 6 refl)) (no-more !)))) (λ u.
         use1 W (later (some (λ (r : Halfword). ((‵ (flft κ q) ⊛ ‵ ftrue) ⊛ ‵ (S.the-row .own r (u ∷ []))) ⊛ raw (ensured 𝓤 H A at-pc.ended (at-pc.clauses 𝓤 H A mem run) (κ, tt) (d .bytes, (d .start, (pc, tt))) tt r)))) (id⊢ 𝓤 _) $ await ! tt $ pick ! (λ r.
         split ! $ move ! (1 ∷ []) $ use1 W (raw (fact 𝓤 (r ≡ found))) (said r) $ heard ! (r ≡ found) (λ e. split ! $ move ! (1 ∷ []) $
-        -- [the result; the token; what the struct owns; _3; …; _2; …; _1; …; room for _0; …]
+        -- [the result; the token; what the struct owns; _4; …; _3; …; _2; …; _1; …; room for _0; …]
         peeks ! S.the-row (Is S.the-row) (shows 𝓤 H A S.the-row) r (u ∷ []) (λ is.
         land ! (from ! (stop !)) (init ! 11 refl (EL.lawful S.the-type S′.the-laws 𝓤 H A W tt .typed r _ is .0)) $
         returns ! (look ! 11 refl) $ forget ! 3 refl $ forget ! 5 refl $ forget ! 7 refl $ forget ! 9 refl $ forget ! 11 refl $
