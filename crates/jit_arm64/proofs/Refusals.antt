@@ -11,8 +11,8 @@ use Rattle.word.specs.Word.{add}
 use Rattle.emit_native.specs.declared.Host.{Host}
 use Rattle.emit_native.specs.declared.EmitFlow.{EmitFlow}
 use Rattle.emit_native.specs.declared.EmitFlow.the-variants.{Continue, Terminate, None}
-use Rattle.jit_arm64.specs.declared.block.Fetched.{Fetched}
-use Rattle.jit_arm64.specs.declared.block.Fetched.the-variants.{Missing, Half, Word}
+use Rattle.jit_arm64.specs.declared.fetch.Fetched.{Fetched}
+use Rattle.jit_arm64.specs.declared.fetch.Fetched.the-variants.{Missing, Half, Word}
 use Rattle.jit_arm64.specs.declared.block.Outcome.{Outcome}
 use Rattle.jit_arm64.specs.declared.block.Outcome.the-variants.{GoOn, End, Help, Pass, Lack}
 use Rattle.jit_arm64.specs.Block.{Turn, Walk, fetch, turn, step, walk, whole-walk, compile-native-block, after, none-outcome, instr16-turn, instr-turn}

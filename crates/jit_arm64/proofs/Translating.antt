@@ -15,8 +15,8 @@ use Rattle.emit_native.specs.declared.EmitFlow.{EmitFlow}
 use Rattle.emit_native.specs.declared.EmitFlow.the-variants.{Continue, Terminate, None}
 use Rattle.emit_native.specs.Calls.{Emission, words}
 use Rattle.jit_arm64.specs.declared.Answer.{Answer}
-use Rattle.jit_arm64.specs.declared.block.Fetched.{Fetched}
-use Rattle.jit_arm64.specs.declared.block.Fetched.the-variants.{Missing, Half, Word}
+use Rattle.jit_arm64.specs.declared.fetch.Fetched.{Fetched}
+use Rattle.jit_arm64.specs.declared.fetch.Fetched.the-variants.{Missing, Half, Word}
 use Rattle.jit_arm64.specs.declared.block.Outcome.{Outcome}
 use Rattle.jit_arm64.specs.declared.block.Stop.{Stop}
 use Rattle.jit_arm64.specs.declared.block.Stop.the-variants.{Limit, Ended, Helper, Uncovered, NotFetched}

@@ -1,5 +1,5 @@
 -- What holds of the walk after n instructions: what is left of it ends as the whole does. Assumes nothing.
-use Prim.Native.Nat.{ℕ, suc, _+_, _*_, _-_, _≤_}
+use Prim.Native.Nat.{ℕ, suc, _+_, _*_, _-_, _^_, _≤_, _<_}
 use native.Mathlib.Omega.{arith}
 use mathlib.Core.Path.{_≡_, refl, sym, ap, _∙_}
 use mathlib.Core.List.{List, [], _∷_, _++_, append-assoc, append-nil, flatten}
@@ -12,8 +12,10 @@ use Rattle.emit_native.specs.Decode.{decode32}
 use Rattle.emit_native.specs.Instr16.{emit-native-instr16}
 use Rattle.emit_native.specs.Instr32.{emit-native-instr}
 use Rattle.emit_native.specs.TermHelper.{emit-native-term-helper16, emit-native-term-helper32}
-use Rattle.jit_arm64.specs.declared.block.Fetched.{Fetched}
-use Rattle.jit_arm64.specs.declared.block.Fetched.the-variants.{Missing, Half, Word}
+use Rattle.fetch_window.specs.Window.{index}
+use Rattle.fetch_window.proofs.Reading.{index-add}
+use Rattle.jit_arm64.specs.declared.fetch.Fetched.{Fetched}
+use Rattle.jit_arm64.specs.declared.fetch.Fetched.the-variants.{Missing, Half, Word}
 use Rattle.jit_arm64.specs.declared.block.Outcome.{Outcome}
 use Rattle.jit_arm64.specs.declared.block.Outcome.the-variants.{GoOn, End, Help, Pass, Lack}
 use Rattle.jit_arm64.specs.declared.block.Stop.{Stop}
@@ -35,16 +37,17 @@ pub record Walking (h : Host) (guest : List ℕ) (start limit : ℕ) (l : List �
   pub calls : List Call
   pub long : length l ≡ max-words
   pub holds : take len l ≡ words (h .slots) calls
+  pub fits : start < 2 ^ 64
   pub upto : n ≤ limit
   pub near : i ≤ 4 * n
   pub room : len ≤ 29 * n
   pub same : in-front calls (walk h guest start (limit - n) n i) ≡ walk h guest start limit 0 0
 
-pub begin : (h : Host) (guest : List ℕ) (start limit : ℕ) (l : List ℕ) → length l ≡ max-words → Walking h guest start limit l 0 0 0
+pub begin : (h : Host) (guest : List ℕ) (start limit : ℕ) (l : List ℕ) → length l ≡ max-words → start < 2 ^ 64 → Walking h guest start limit l 0 0 0
 unfolding words flatten
-begin h guest start limit l long =
+begin h guest start limit l long fits =
     let q : limit - 0 ≡ limit = omega arith in
-    record { calls = []; long = long; holds = refl; upto = omega arith; near = omega arith; room = omega arith; same = rw q }
+    record { calls = []; long = long; holds = refl; fits = fits; upto = omega arith; near = omega arith; room = omega arith; same = rw q }
 
 module _ {h : Host} {guest : List ℕ} {start limit : ℕ} {l : List ℕ} {len i n : ℕ} (small : limit ≤ max-steps)
     (v : Walking h guest start limit l len i n) where
@@ -61,9 +64,15 @@ module _ {h : Host} {guest : List ℕ} {start limit : ℕ} {l : List ℕ} {len i
 
   -- one turn, after which the words are l′
   module _ {l′ : List ℕ} {r : Turned} (q : n ≡ limit → ⊥)
-      (t : TurnedOf (h .slots) (turn h (add start i) n (fetch (add start i) guest i)) l len l′ r) where
+      (turned : TurnedOf (h .slots) (turn h (add start i) n (fetch (add start i) guest (index start (add start i)))) l len l′ r) where
     abbrev this : Turn
     this = turn h (add start i) n (fetch (add start i) guest i)
+
+    t : TurnedOf (h .slots) this l len l′ r
+    t =
+        let f = v .near in
+        let u = v .upto in
+        rw (index-add start i (v .fits) (omega arith)) at turned
 
     one : (o : Outcome) → r .outcome ≡ o → in-front (v .calls) (step o this start n i (walk h guest start (limit - suc n))) ≡ walk h guest start limit 0 0
     unfolding walk
@@ -96,6 +105,7 @@ module _ {h : Host} {guest : List ℕ} {start limit : ℕ} {l : List ℕ} {len i
           calls = v .calls ++ this .calls;
           long = t .appended .long;
           holds = added;
+          fits = v .fits;
           upto = omega arith;
           near = omega arith;
           room = omega arith;

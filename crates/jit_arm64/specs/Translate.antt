@@ -7,8 +7,8 @@ use lib.Dec.{eqb, leb, ltb}
 use Rattle.a64.specs.Emitter.{bytes}
 use Rattle.emit_native.specs.declared.Host.{Host}
 use Rattle.jit_arm64.specs.declared.Answer.{Answer}
-use Rattle.jit_arm64.specs.declared.block.Fetched.{Fetched}
-use Rattle.jit_arm64.specs.declared.block.Fetched.the-variants.{Missing, Half, Word}
+use Rattle.jit_arm64.specs.declared.fetch.Fetched.{Fetched}
+use Rattle.jit_arm64.specs.declared.fetch.Fetched.the-variants.{Missing, Half, Word}
 use Rattle.jit_arm64.specs.declared.block.Outcome.{Outcome}
 use Rattle.jit_arm64.specs.declared.block.Outcome.the-variants.{GoOn, End, Help, Pass, Lack}
 use Rattle.jit_arm64.specs.declared.block.Stop.{Stop}

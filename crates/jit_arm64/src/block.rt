@@ -6,7 +6,10 @@ ghost use Rattle.a64.specs.Emitter.{max-words};
 ghost use Rattle.emit_native.specs.Calls as C;
 ghost use Rattle.emit_native.specs.Decode.{decode32};
 ghost use Rattle.emit_native.specs.TermHelper.{emit-native-term-helper16, emit-native-term-helper32};
-ghost use Rattle.jit_arm64.specs.Block.{max-steps, fetch, fetch-upper, instr16-turn, instr-turn, help-turn, turn, none-outcome, walk, return-calls, next-calls, end-calls, whole-walk, most-walked, Appended, TurnedOf, WalkedOf, BlockOf};
+ghost use Rattle.fetch_window.specs.Window.{index};
+ghost use Rattle.jit_arm64.specs.Block.{max-steps, fetch, instr16-turn, instr-turn, help-turn, turn, none-outcome, walk, return-calls, next-calls, end-calls, whole-walk, most-walked, Appended, TurnedOf, WalkedOf, BlockOf};
+use crate::fetch::Fetched;
+use crate::fetch::fetch;
 use a64::A64Emitter;
 use a64::MAX_WORDS;
 use emit_native::EmitFlow;
@@ -18,13 +21,6 @@ use isa::decode::Decoded32;
 
 // `max_steps.min(64)`
 const MAX_STEPS: u32 = 64;
-
-// What stands at an index of the guest bytes: a halfword is missing, or a 16-bit or a 32-bit instruction.
-pub enum Fetched {
-    Missing,
-    Half(u16),
-    Word(u32),
-}
 
 // What comes of an instruction: the block goes on, ends, or ends by a helper; it is not covered, or lacks a halfword.
 pub enum Outcome {
@@ -64,41 +60,6 @@ pub struct NativeBlock {
     pub len: usize,
     pub count: u32,
     pub stop: Stop,
-}
-
-fn fetch_upper(guest: &[u8], i: usize) -> Fetched
-    requires { ⌜ i + 2 ≤ length (now guest) ⌝ }
-    ensures { λ r. ⌜ r ≡ fetch-upper (now (guest .entry)) i ⌝ }
-{
-    let left = guest.len() - i;
-    if left < 4 {
-        return Fetched::Missing;
-    }
-    let low = le::load16(guest, i) as u32;
-    let upper = le::load16(guest, i + 2) as u32;
-    Fetched::Word(upper * 65536 + low)
-}
-
-fn fetch(pc: u64, guest: &[u8], i: usize) -> Fetched
-    ensures { λ r. ⌜ r ≡ fetch pc (now (guest .entry)) i ⌝ }
-{
-    let odd = pc % 2;
-    if odd == 0 {
-        let n = guest.len();
-        if n < 2 {
-            return Fetched::Missing;
-        }
-        if n - 2 < i {
-            return Fetched::Missing;
-        }
-        let w = le::load16(guest, i);
-        let low = w % 4;
-        if low == 3 {
-            return fetch_upper(guest, i);
-        }
-        return Fetched::Half(w);
-    }
-    Fetched::Missing
 }
 
 // Whether the helper's emitter took the instruction.
@@ -234,15 +195,15 @@ fn compile_instr(
     words: &mut [u32; MAX_WORDS],
     at: usize,
     guest: &[u8],
-    i: usize,
+    start: u64,
     pc: u64,
     host: Host,
     emitted: u32,
 ) -> Turned
     requires { ⌜ (length (now words) ≡ max-words) × (host .slots ≤ 32512) × (at ≤ 29 * 63) ⌝ }
-    ensures { λ r. ⌜ TurnedOf (host .slots) (turn host pc emitted (fetch pc (now (guest .entry)) i)) (now (words .entry)) at (now (words .exit)) r ⌝ }
+    ensures { λ r. ⌜ TurnedOf (host .slots) (turn host pc emitted (fetch pc (now (guest .entry)) (index start pc))) (now (words .entry)) at (now (words .exit)) r ⌝ }
 {
-    let found = fetch(pc, guest, i);
+    let found = fetch(guest, start, pc);
     match found {
         Fetched::Missing => Turned {
             len: at,
@@ -267,7 +228,7 @@ fn walk(words: &mut [u32; MAX_WORDS], guest: &[u8], start: u64, limit: u32, host
             break Stop::Limit;
         }
         let pc = std::num::wrapping_add_u64(start, i as u64);
-        let t = compile_instr(words, len, guest, i, pc, host, n);
+        let t = compile_instr(words, len, guest, start, pc, host, n);
         len = t.len;
         let outcome = t.outcome;
         match outcome {

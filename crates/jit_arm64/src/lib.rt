@@ -8,6 +8,7 @@ use block::Stop;
 use emit_native::Host;
 
 pub mod block;
+pub mod fetch;
 
 // The refusal, 0 where the block was written; its length in bytes, its count of instructions, and 1 where a helper ended it.
 pub struct Answer {

@@ -26,7 +26,7 @@ use Rattle.rv64.specs.Compressed as RC
 use Rattle.rv64.specs.Run as R
 use Rattle.emit_native.specs.declared.EmitFlow.{EmitFlow}
 use Rattle.emit_native.specs.declared.Host as JH
-use Rattle.jit_arm64.specs.declared.block.Fetched.{Fetched}
+use Rattle.jit_arm64.specs.declared.fetch.Fetched.{Fetched}
 use Rattle.jit_arm64.specs.declared.block.Outcome.{Outcome}
 use Rattle.jit_arm64.specs.declared.block.Stop.{Stop}
 use Rattle.emit_native.specs.Calls.{Call, emit, mov-imm64, Emission}

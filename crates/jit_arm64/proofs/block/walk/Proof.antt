@@ -12,7 +12,7 @@ abbrev μ-loop : tie.MeasureT-loop
 μ-loop words₀ guest start limit host len₀ i₀ n₀ words len i n = limit - n
 
 loop-holds : tie.Need-loop-holds Inv-loop μ-loop
-loop-holds c = begin _ _ _ _ _ (c .before .pre .0)
+loop-holds c = begin _ _ _ _ _ (c .before .pre .0) (omega arith)
 
 compile-instr-requires : tie.Need-compile-instr-requires Inv-loop μ-loop
 compile-instr-requires c κs =

@@ -1,0 +1,58 @@
+use Prim.Native.Nat.{ℕ, _+_, _%_}
+use native.Mathlib.Omega.{arith}
+use mathlib.Core.Path.{_≡_, sym, _∙_}
+use lib.ListN.{length}
+use borrow.Author.Needs.{needs}
+use borrow.Author.Tests.{le-leb, lt-leb, eq-eqb, ne-eqb}
+use Rattle.fetch_window.specs.Window.{index}
+use Rattle.fetch_window.proofs.Reading.{found, missing}
+use Rattle.jit_arm64.specs.Block.{fetch}
+use Rattle.jit_arm64.proofs.fetch.fetch.Statement.{statement}
+use Rattle.jit_arm64.proofs.fetch.fetch.Tie as tie
+
+returns : tie.Need-returns
+unfolding fetch
+returns c = let a = c .before .before .args in rw (ne-eqb (a .pc % 2) 0 (omega arith))
+
+fetch-upper-requires : tie.Need-fetch-upper-requires
+fetch-upper-requires c κs =
+    let a = c .before .before .before .before .before .before .before .args in
+    let h = found (a .guest .now) (index (a .start) (a .pc)) _ (sym (c .before .before .before .before .read-u16 .ensures) ∙ c .before .before .found .given .1) in
+    (h .0, sym (h .1))
+
+returns-2 : tie.Need-returns-2
+unfolding fetch
+returns-2 c =
+    let a = c .before .before .before .before .before .before .before .before .args in
+    let i = index (a .start) (a .pc) in
+    let h = found (a .guest .now) i _ (sym (c .before .before .before .before .before .read-u16 .ensures) ∙ c .before .before .before .found .given .1) in
+    rw (eq-eqb (a .pc % 2) 0 (omega arith), le-leb (i + 2) (length (a .guest .now)) (h .0), h .1, eq-eqb _ _ (c .before .if2 .taken)) (c .fetch-upper .ensures)
+
+returns-3 : tie.Need-returns-3
+unfolding fetch
+returns-3 c =
+    let a = c .before .before .before .before .before .args in
+    let i = index (a .start) (a .pc) in
+    let h = missing (a .guest .now) i (sym (c .before .before .read-u16 .ensures) ∙ c .enum-told .given .1) in
+    rw (eq-eqb (a .pc % 2) 0 (omega arith), lt-leb (i + 2) (length (a .guest .now)) h)
+
+returns-4 : tie.Need-returns-4
+unfolding fetch
+returns-4 c =
+    let a = c .before .before .before .before .before .before .before .args in
+    let i = index (a .start) (a .pc) in
+    let h = found (a .guest .now) i _ (sym (c .before .before .before .before .read-u16 .ensures) ∙ c .before .before .found .given .1) in
+    rw (eq-eqb (a .pc % 2) 0 (omega arith), le-leb (i + 2) (length (a .guest .now)) (h .0), h .1, ne-eqb _ _ (c .if2 .left))
+
+pub fetch-spec : {M : Type 1} → statement M
+fetch-spec =
+    tie.close
+    (tie.spec
+    returns
+    (λ c κs. search needs)
+    (λ c. search needs)
+    (λ c. search needs)
+    fetch-upper-requires
+    returns-2
+    returns-3
+    returns-4)
