@@ -34,7 +34,7 @@ use Rattle.emit_native.proofs.Size.{size, size-append, size-le, if-size, by, Wi
 
 -- ---- words behind others
 
-forms-append : (slots : ℕ) (cs ds : List Call) → flatten (groups slots (cs ++ ds)) ≡ flatten (groups slots cs) ++ flatten (groups slots ds)
+pub forms-append : (slots : ℕ) (cs ds : List Call) → flatten (groups slots (cs ++ ds)) ≡ flatten (groups slots cs) ++ flatten (groups slots ds)
 unfolding flatten
 forms-append slots [] ds = refl
 forms-append slots (c ∷ cs) ds =

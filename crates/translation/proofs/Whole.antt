@@ -31,6 +31,7 @@ use Rattle.emit_native.specs.Calls as JC
 use Rattle.jit_arm64.specs.declared.block.Outcome.{Outcome}
 use Rattle.jit_arm64.specs.Block.{Turn, Walk, fetch, turn, step, walk, end-calls, block-calls, whole-walk, max-steps}
 use Rattle.jit_arm64.specs.Translate.{by-helper, block-bytes}
+use Rattle.jit_arm64.proofs.Turns.{forms-append}
 use Rattle.translation.specs.Demand3.{slot, place, Entry, Outside, Ends, Demand3}
 use Rattle.translation.proofs.Registers.{tab, tab-getD, getD-tab}
 use Rattle.translation.proofs.Calls.{Host, host, call-step, calls-run, scratch, fits, keeps, all-fit, all-keep, AllIn, Kept, calls-kept, real, Goes, calls-go}
@@ -70,12 +71,6 @@ ending-is Stop.Ended pc n t = refl
 ending-is Stop.Limit pc n t = refl
 ending-is Stop.Uncovered pc n t = refl
 ending-is Stop.NotFetched pc n t = refl
-
-forms-append : (o : ℕ) (cs ds : List Call) → flatten (groups o (cs ++ ds)) ≡ flatten (groups o cs) ++ flatten (groups o ds)
-unfolding flatten
-forms-append o [] ds = refl
-forms-append o (c ∷ cs) ds =
-    ap (λ (l : List Form). forms o c ++ l) (forms-append o cs ds) ∙ sym (append-assoc (forms o c) (flatten (groups o cs)) (flatten (groups o ds)))
 
 -- the count goes into X1, then the return
 abbrev counted : Walk → List Call
