@@ -84,10 +84,13 @@ impl Dispatcher {
             let translated = self.code.translated;
             match self.code.block(&guest) {
                 Ok((start, block)) => {
+                    let words = self.code.words(start, block.length);
                     if self.code.translated > translated && translated < LINES {
                         print_block(self.pc, &block);
                     }
-                    let words = self.code.words(start, block.length);
+                    if translated == 0 {
+                        print_words(words.0);
+                    }
                     let done = self.host.run(&guest, block, words, &self.registers)?;
                     self.take(&guest, block.helper, done)?;
                 }
@@ -171,6 +174,15 @@ fn print_block(pc: u64, block: &Block) {
     let (count, words) = (block.count, block.length / 4);
     let last = if block.helper { ", the last by a helper" } else { "" };
     println!("  block at {pc:x}: {count} guest instructions, {words} words{last}");
+}
+
+/// Lists a block's words.
+fn print_words(words: &[u8]) {
+    for line in words.chunks(32) {
+        let words =
+            line.chunks(4).map(|b| format!("{:02x}{:02x}{:02x}{:02x}", b[3], b[2], b[1], b[0]));
+        println!("    {}", words.collect::<Vec<_>>().join(" "));
+    }
 }
 
 fn hexadecimal(text: &str) -> Result<u64, String> {
