@@ -11,7 +11,7 @@ use std::os::unix::process::ExitStatusExt;
 use std::process::Command;
 use steppers::records::{a64_cases, rv64_cases, Reader};
 
-const BLOCKS: &[u8] = include_bytes!("../../../oracle/recorded/blocks.bin");
+const BLOCKS: &[u8] = include_bytes!("../../../../crates/blocks_replay/data/blocks.bin");
 const PLACE: &[u8] = include_bytes!("../../../../crates/place_replay/data/place.bin");
 const RV64: &[u8] = include_bytes!("../../../../crates/rv64_replay/data/rv64.bin");
 const A64: &[u8] = include_bytes!("../../../../crates/a64_replay/data/a64.bin");
