@@ -1,29 +1,20 @@
-use mathlib.Core.Path.{refl}
-use borrow.Author.Tests.{eq-eqb, ne-eqb}
-use Rattle.rv64.specs.Alu as N
-use Rattle.rv64.specs.Compressed as C
+use native.Mathlib.Omega.{arith}
+use Rattle.rv64.specs.Step as S
 use Rattle.rv64.specs.Execute as X
+use Rattle.rv64.specs.Compressed as C
+use Rattle.rv64.specs.Alu as N
+use borrow.Author.Tests.{eq-eqb, ne-eqb}
 use borrow.Author.Needs.{needs}
 use Rattle.rv64.proofs.compressed.addi_unless0.Statement.{statement}
 use Rattle.rv64.proofs.compressed.addi_unless0.Tie as tie
 
 returns : tie.Need-returns
-unfolding C.unless0 X.exec N.value
-returns c = rw (eq-eqb _ _ (c .if1 .taken)) (refl, refl)
-
-read-requires : tie.Need-read-requires
-read-requires c κs = search needs
-
-wrapping-add-u64-requires : tie.Need-wrapping-add-u64-requires
-wrapping-add-u64-requires c κs = search needs
-
-set-requires : tie.Need-set-requires
-set-requires c κs = search needs
+unfolding C.unless0 S.applied X.exec N.value
+returns c = (omega arith, rw (eq-eqb _ _ (c .if1 .taken)))
 
 returns-2 : tie.Need-returns-2
-unfolding C.unless0 X.exec N.value
-returns-2 c = rw (c .set .ensures .0, c .set .ensures .1, c .before .before .wrapping-add-u64 .ensures, c .before .before .before .read .ensures, ne-eqb _ _ (c .before .before .before .before .before .if1 .left), c .before .before .before .before .before .before .pre .2) (refl, refl)
+unfolding C.unless0 S.applied X.exec N.value
+returns-2 c = (omega arith, rw (c .wrapping-add-u64 .ensures, c .before .read .ensures, ne-eqb _ _ (c .before .before .if1 .left)))
 
 pub addi-unless0-spec : {M : Type 1} → statement M
-addi-unless0-spec =
-    tie.close (tie.spec returns read-requires wrapping-add-u64-requires set-requires returns-2)
+addi-unless0-spec = tie.close (tie.spec returns (λ c κs. search needs) (λ c κs. search needs) returns-2)

@@ -7,21 +7,6 @@ use borrow.Author.Needs.{needs}
 use Rattle.rv64.proofs.compressed.arith.Statement.{statement}
 use Rattle.rv64.proofs.compressed.arith.Tie as tie
 
-sub-requires : tie.Need-sub-requires
-sub-requires c κs = search needs
-
-sub-requires-2 : tie.Need-sub-requires-2
-sub-requires-2 c κs = search needs
-
-sextw-requires : tie.Need-sextw-requires
-sextw-requires c κs = search needs
-
-wrapping-add-u64-requires : tie.Need-wrapping-add-u64-requires
-wrapping-add-u64-requires c κs = search needs
-
-sextw-requires-2 : tie.Need-sextw-requires-2
-sextw-requires-2 c κs = search needs
-
 returns : tie.Need-returns
 unfolding N.value C.ariths
 returns c = rw (c .sub .ensures, c .before .match .keys1)
@@ -54,11 +39,11 @@ pub arith-spec : {M : Type 1} → statement M
 arith-spec =
     tie.close
     (tie.spec
-    sub-requires
-    sub-requires-2
-    sextw-requires
-    wrapping-add-u64-requires
-    sextw-requires-2
+    (λ c κs. search needs)
+    (λ c κs. search needs)
+    (λ c κs. search needs)
+    (λ c κs. search needs)
+    (λ c κs. search needs)
     returns
     returns-2
     returns-3
