@@ -6,6 +6,7 @@ use Prim.Native.Nat.{ℕ, _+_, _*_, _%_, _<_}
 use native.Mathlib.Omega as N
 use lib.Dec.{ltb, eqb}
 use borrow.Author.Tests.{ne-eqb}
+use Rattle.isa.specs.declared.classes.Class.{Class}
 use Rattle.isa.specs.Classes.{classOf}
 use Rattle.word.specs.Word.{add}
 use Rattle.isa.specs.Formats.{inst, rd, rs1, rs2, funct3, immI, immB, highReg, lowReg}
@@ -34,12 +35,8 @@ unfolding write
 write-zero x v = refl
 
 -- the opcodes, in the order of the stepper's `match`
-abbrev pub opcodes : D.Table ℕ
-opcodes = (0x33, 0) ∷ (0x13, 0) ∷ (0x3B, 0) ∷ (0x1B, 0) ∷ (0x37, 0) ∷ (0x17, 0) ∷ (0x6F, 0) ∷ (0x67, 0) ∷ (0x63, 0) ∷ (0x0F, 0) ∷ (0x03, 0) ∷ (0x23, 0) ∷ (0x07, 0) ∷ (0x27, 0) ∷ (0x2F, 0) ∷ (0x73, 0) ∷ []
-
-pub no-opcode : (P : Type 0) (w : ℕ) → Missed P opcodes (w % 128) → D.decode32 w ≡ Instr.Uncovered
-unfolding D.decode32 D.byClass classOf
-no-opcode P w h = simp (ne-eqb _ _ (h .1), ne-eqb _ _ (h .0 .1), ne-eqb _ _ (h .0 .0 .1), ne-eqb _ _ (h .0 .0 .0 .1), ne-eqb _ _ (h .0 .0 .0 .0 .1), ne-eqb _ _ (h .0 .0 .0 .0 .0 .1), ne-eqb _ _ (h .0 .0 .0 .0 .0 .0 .1), ne-eqb _ _ (h .0 .0 .0 .0 .0 .0 .0 .1), ne-eqb _ _ (h .0 .0 .0 .0 .0 .0 .0 .0 .1), ne-eqb _ _ (h .0 .0 .0 .0 .0 .0 .0 .0 .0 .1), ne-eqb _ _ (h .0 .0 .0 .0 .0 .0 .0 .0 .0 .0 .1), ne-eqb _ _ (h .0 .0 .0 .0 .0 .0 .0 .0 .0 .0 .0 .1), ne-eqb _ _ (h .0 .0 .0 .0 .0 .0 .0 .0 .0 .0 .0 .0 .1), ne-eqb _ _ (h .0 .0 .0 .0 .0 .0 .0 .0 .0 .0 .0 .0 .0 .1), ne-eqb _ _ (h .0 .0 .0 .0 .0 .0 .0 .0 .0 .0 .0 .0 .0 .0 .1), ne-eqb _ _ (h .0 .0 .0 .0 .0 .0 .0 .0 .0 .0 .0 .0 .0 .0 .0 .1))
+abbrev others : D.Table ℕ
+others = (0x37, 0) ∷ (0x17, 0) ∷ (0x6F, 0) ∷ (0x67, 0) ∷ (0x63, 0) ∷ (0x0F, 0) ∷ (0x03, 0) ∷ (0x23, 0) ∷ (0x07, 0) ∷ (0x27, 0) ∷ (0x2F, 0) ∷ (0x73, 0) ∷ []
 
 -- the registers that are set
 
@@ -80,6 +77,21 @@ module _ (w pc : ℕ) (x : List ℕ) where
       table 4 (rd w) _ _ (omega N.arith) D.imms32 (funct3 w) (D.imm w) (λ k. refl) _ _
       (table 4 (rd w) _ _ (omega N.arith) D.shifts32 (D.funct10 w) (D.shiftw w) (λ k. refl) _ _ refl .1)
 
+  abbrev done-by : Computed → Step
+  done-by c = S.applied (S.put c (rd w)) (add pc 4) x
+
+  abbrev done : Class → Step
+  done k = exec (D.byClass k w) 4 pc x
+
+  -- where the opcode is none that the stepper's `match` has before it
+  pub arithmetic : (P : Type 0) → Missed P others (w % 128) → S.Gives (S.put (S.arithmetic w (read x (rs1 w)) (read x (rs2 w))) (rd w)) (D.decode32 w) 4 pc x
+  unfolding S.arithmetic S.arithmetics S.put S.applied exec D.decode32 D.byClass D.op D.op32 classOf
+  arithmetic P h = (
+    put-sets (S.arithmetic w (read x (rs1 w)) (read x (rs2 w))) (rd w) (omega N.arith),
+    simp (ne-eqb _ _ (h .1), ne-eqb _ _ (h .0 .1), ne-eqb _ _ (h .0 .0 .1), ne-eqb _ _ (h .0 .0 .0 .1), ne-eqb _ _ (h .0 .0 .0 .0 .1), ne-eqb _ _ (h .0 .0 .0 .0 .0 .1), ne-eqb _ _ (h .0 .0 .0 .0 .0 .0 .1), ne-eqb _ _ (h .0 .0 .0 .0 .0 .0 .0 .1), ne-eqb _ _ (h .0 .0 .0 .0 .0 .0 .0 .0 .1), ne-eqb _ _ (h .0 .0 .0 .0 .0 .0 .0 .0 .0 .1), ne-eqb _ _ (h .0 .0 .0 .0 .0 .0 .0 .0 .0 .0 .1), ne-eqb _ _ (h .0 .0 .0 .0 .0 .0 .0 .0 .0 .0 .0 .1))
+        (either done-by done (eqb (w % 128) 0x13) (op-imm .1) (either done-by done (eqb (w % 128) 0x1B) (op-imm-32 .1) (either done-by done (eqb (w % 128) 0x33) (op D.ops .1) (either done-by done (eqb (w % 128) 0x3B) (op D.ops32 .1) refl)))),
+  )
+
   pub branch : S.Gives (S.branched (funct3 w) (read x (rs1 w)) (read x (rs2 w)) (add pc (immB w)) (add pc 4)) (D.branch w) 4 pc x
   unfolding S.branched D.branch S.applied exec
   branch = (
@@ -97,3 +109,8 @@ module _ (w pc : ℕ) (x : List ℕ) where
   pub arith : S.Gives (S.put (S.computed C.ariths (inst 12 12 w * 4 + inst 6 5 w) (read x (highReg w)) (read x (lowReg w)) Computed.Reserved) (highReg w)) (C.arith w) 2 pc x
   unfolding S.put S.applied exec C.arith
   arith = table 2 (highReg w) _ _ (omega N.arith) C.ariths (inst 12 12 w * 4 + inst 6 5 w) (C.reg w) (λ k. refl) _ _ refl
+
+  pub unless : (n : ℕ) (i : Instr) (e : Effect) → S.Gives e i 2 pc x → S.Gives (cond (eqb n 0) Effect.Uncovered e) (C.unless0 n i) 2 pc x
+  unfolding C.unless0 S.applied exec
+  unless n i e p =
+      (pick-sets (eqb n 0) _ _ (omega N.arith) (p .0), either (λ (f : Effect). S.applied f (add pc 2) x) (λ (j : Instr). exec j 2 pc x) (eqb n 0) refl (p .1))

@@ -1,12 +1,12 @@
 -- The stepper's parts, each by the definitions of what an instruction does. Definitions only.
 use mathlib.Core.Bool.{Bool, cond, not}
 use mathlib.Core.Path.{_≡_}
-use mathlib.Core.List.{List}
+use mathlib.Core.List.{List, [], _∷_}
 use Prim.Native.Nat.{ℕ, _+_, _*_, _%_, _<_}
 use lib.Dec.{ltb, eqb}
 use lib.ListN.{length}
 use Rattle.word.specs.Word.{add}
-use Rattle.isa.specs.Formats.{inst, funct3, immI}
+use Rattle.isa.specs.Formats.{inst, opcode, funct3, immI}
 use Rattle.rv64.specs.declared.alu.Alu.{Alu}
 use Rattle.rv64.specs.declared.alu.Cond.{Cond}
 use Rattle.rv64.specs.declared.decode.Instr.{Instr}
@@ -20,7 +20,7 @@ use Rattle.rv64.specs.declared.run.Stop.{Stop}
 use Rattle.rv64.specs.declared.run.Refusal.{Refusal}
 use Rattle.rv64.specs.declared.run.Answer.{Answer}
 use Rattle.rv64.specs.Alu.{value, taken}
-use Rattle.rv64.specs.Decode.{Table, lookup, imms, shifts, imms32, shifts32, branches, funct10}
+use Rattle.rv64.specs.Decode.{Table, lookup, ops, ops32, imms, shifts, imms32, shifts32, branches, funct10}
 use Rattle.rv64.specs.Execute as X
 use Rattle.rv64.specs.Execute.{Step, exec, next, write}
 use Rattle.rv64.specs.Run.{halfword, word, hart}
@@ -66,6 +66,18 @@ shiftImm32 w x = computed shifts32 (funct10 w) x (inst 24 20 w) Computed.Reserve
 
 unfoldable pub opImm32 : ℕ → ℕ → Computed
 opImm32 w x = computed imms32 (funct3 w) x (immI w) (shiftImm32 w x)
+
+-- by opcode: OP-IMM, OP-IMM-32, OP, OP-32
+unfoldable pub arithmetics : ℕ → ℕ → ℕ → Table Computed
+arithmetics w x y =
+    (0x13, opImm w x)
+    ∷ (0x1B, opImm32 w x)
+    ∷ (0x33, computed ops (funct10 w) x y Computed.Reserved)
+    ∷ (0x3B, computed ops32 (funct10 w) x y Computed.Reserved)
+    ∷ []
+
+unfoldable pub arithmetic : ℕ → ℕ → ℕ → Computed
+arithmetic w x y = lookup (arithmetics w x y) (opcode w) (λ (c : Computed). c) Computed.Reserved
 
 -- a computed value in rd
 unfoldable pub put : Computed → ℕ → Effect

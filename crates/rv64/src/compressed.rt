@@ -1,6 +1,7 @@
 // The 16-bit encodings, and what the instructions that they stand for do.
 ghost use mathlib.Core.Path.{_≡_};
-ghost use Prim.Native.Nat.{_<_};
+ghost use mathlib.Core.Bool.{cond};
+ghost use Prim.Native.Nat.{_+_, _*_};
 ghost use lib.Dec.{eqb};
 ghost use Rattle.isa.specs.Formats as F;
 ghost use Rattle.word.specs.Word as W;
@@ -18,23 +19,22 @@ use crate::execute::ended;
 use crate::execute::put;
 use crate::execute::read;
 
-// ADDI rd, rs1, imm, unless imm is 0.
-fn addi_unless0(x: &[u64; 32], rd: u32, rs1: u32, imm: u64, pc: u64) -> Effect
-    requires { ⌜ (rd < 32) × (rs1 < 32) ⌝ }
-    ensures { λ r. ⌜ S.Gives r (C.unless0 imm (Instr.OpImm Alu.Add rd rs1 imm)) 2 pc (now (x .entry)) ⌝ }
+// e, or nothing that is covered where the encoding is reserved.
+fn unless(reserved: bool, e: Effect) -> Effect
+    ensures { λ r. ⌜ r ≡ cond reserved Effect.Uncovered e ⌝ }
 {
-    if imm == 0 {
-        return Effect::Uncovered;
-    }
-    let v = std::num::wrapping_add_u64(read(x, rs1), imm);
-    Effect::Set(rd, v)
+    if reserved { Effect::Uncovered } else { e }
 }
 
 fn quadrant0(x: &[u64; 32], w: u16, pc: u64) -> Effect
     ensures { λ r. ⌜ S.Gives r (C.quadrant0 w) 2 pc (now (x .entry)) ⌝ }
 {
     match w / 8192 % 8 {
-        0b000 => addi_unless0(x, (w / 4 % 8 + 8) as u32, 2, isa::decode::imm_ciw(w), pc),
+        0b000 => {
+            let imm = isa::decode::imm_ciw(w);
+            let v = std::num::wrapping_add_u64(read(x, 2), imm);
+            unless(imm == 0, Effect::Set((w / 4 % 8 + 8) as u32, v))
+        }
         0b010 => Effect::Helper,
         0b011 => Effect::Helper,
         0b110 => Effect::Helper,
@@ -43,10 +43,11 @@ fn quadrant0(x: &[u64; 32], w: u16, pc: u64) -> Effect
     }
 }
 
-fn arith(n: u16, x: u64, y: u64) -> Computed
-    ensures { λ r. ⌜ r ≡ S.computed C.ariths n x y Computed.Reserved ⌝ }
+// C.SUB and the others of its group, by bits 12, 6 and 5.
+fn arith(w: u16, x: u64, y: u64) -> Computed
+    ensures { λ r. ⌜ r ≡ S.computed C.ariths (F.inst 12 12 w * 4 + F.inst 6 5 w) x y Computed.Reserved ⌝ }
 {
-    match n {
+    match w / 4096 % 2 * 4 + w / 32 % 4 {
         0b0_00 => Computed::Value(word::sub(x, y)),
         0b0_01 => Computed::Value(x ^ y),
         0b0_10 => Computed::Value(x | y),
@@ -68,7 +69,7 @@ fn misc_alu(x: &[u64; 32], w: u16, pc: u64) -> Effect
         0b00 => Effect::Set(d, a >> (shamt % 64)),
         0b01 => Effect::Set(d, word::asr(a, (shamt % 64) as u32)),
         0b10 => Effect::Set(d, a & isa::decode::imm_ci(w)),
-        0b11 => put(d, arith(w / 4096 % 2 * 4 + w / 32 % 4, a, b)),
+        0b11 => put(d, arith(w, a, b)),
         _ => Effect::Uncovered,
     }
 }
@@ -79,27 +80,12 @@ fn lui_addi16sp(x: &[u64; 32], w: u16, pc: u64) -> Effect
 {
     let d = (w / 128 % 32) as u32;
     if d == 2 {
-        return addi_unless0(x, 2, 2, isa::decode::imm_ci16(w), pc);
-    }
-    if d == 0 {
-        return Effect::Uncovered;
+        let imm = isa::decode::imm_ci16(w);
+        let v = std::num::wrapping_add_u64(read(x, 2), imm);
+        return unless(imm == 0, Effect::Set(2, v));
     }
     let imm = isa::decode::imm_ci(w);
-    if imm == 0 {
-        return Effect::Uncovered;
-    }
-    Effect::Set(d, imm << 12)
-}
-
-fn addiw(x: &[u64; 32], w: u16, pc: u64) -> Effect
-    ensures { λ r. ⌜ S.Gives r (C.unless0 (F.rd w) (Instr.OpImm Alu.Addw (F.rd w) (F.rd w) (F.immCI w))) 2 pc (now (x .entry)) ⌝ }
-{
-    let d = (w / 128 % 32) as u32;
-    if d == 0 {
-        return Effect::Uncovered;
-    }
-    let v = sextw(std::num::wrapping_add_u64(read(x, d), isa::decode::imm_ci(w)));
-    Effect::Set(d, v)
+    unless(d == 0, unless(imm == 0, Effect::Set(d, imm << 12)))
 }
 
 // Whether the register of C.BEQZ and C.BNEZ holds 0.
@@ -125,7 +111,10 @@ fn quadrant1(x: &[u64; 32], w: u16, pc: u64) -> Effect
     let imm = isa::decode::imm_ci(w);
     match w / 8192 % 8 {
         0b000 => Effect::Set(d, std::num::wrapping_add_u64(a, imm)),
-        0b001 => addiw(x, w, pc),
+        0b001 => unless(
+            d == 0,
+            Effect::Set(d, sextw(std::num::wrapping_add_u64(a, imm))),
+        ),
         0b010 => Effect::Set(d, std::num::wrapping_add_u64(0, imm)),
         0b011 => lui_addi16sp(x, w, pc),
         0b100 => misc_alu(x, w, pc),
@@ -143,16 +132,11 @@ fn jr_mv(x: &[u64; 32], w: u16, pc: u64) -> Effect
     let d = (w / 128 % 32) as u32;
     let s = (w / 4 % 32) as u32;
     if s == 0 {
-        if d == 0 {
-            return Effect::Uncovered;
-        }
-        return Effect::Ended(std::num::wrapping_add_u64(read(x, d), 0) / 2 * 2);
-    }
-    if d == 0 {
-        return Effect::Uncovered;
+        let to = std::num::wrapping_add_u64(read(x, d), 0);
+        return unless(d == 0, Effect::Ended(to / 2 * 2));
     }
     let v = std::num::wrapping_add_u64(0, read(x, s));
-    Effect::Set(d, v)
+    unless(d == 0, Effect::Set(d, v))
 }
 
 // C.EBREAK, C.JALR and C.ADD.
@@ -163,11 +147,8 @@ fn ebreak_jalr_add(x: &[u64; 32], w: u16, ignore_ebreak: bool, pc: u64) -> Effec
     let s = (w / 4 % 32) as u32;
     let a = read(x, d);
     if s != 0 {
-        if d == 0 {
-            return Effect::Uncovered;
-        }
         let v = std::num::wrapping_add_u64(a, read(x, s));
-        return Effect::Set(d, v);
+        return unless(d == 0, Effect::Set(d, v));
     }
     if d != 0 {
         let to = std::num::wrapping_add_u64(a, 0);
@@ -190,22 +171,15 @@ fn cr(x: &[u64; 32], w: u16, ignore_ebreak: bool, pc: u64) -> Effect
     }
 }
 
-fn slli(x: &[u64; 32], w: u16, pc: u64) -> Effect
-    ensures { λ r. ⌜ S.Gives r (C.unless0 (F.rd w) (Instr.OpImm Alu.Sll (F.rd w) (F.rd w) (F.shamtC w))) 2 pc (now (x .entry)) ⌝ }
-{
-    let d = (w / 128 % 32) as u32;
-    if d == 0 {
-        return Effect::Uncovered;
-    }
-    let v = read(x, d) << (isa::decode::shamt_c(w) % 64);
-    Effect::Set(d, v)
-}
-
 fn quadrant2(x: &[u64; 32], w: u16, ignore_ebreak: bool, pc: u64) -> Effect
     ensures { λ r. ⌜ S.Gives r (C.quadrant2 «ignore_ebreak» w) 2 pc (now (x .entry)) ⌝ }
 {
     match w / 8192 % 8 {
-        0b000 => slli(x, w, pc),
+        0b000 => {
+            let d = (w / 128 % 32) as u32;
+            let v = read(x, d) << (isa::decode::shamt_c(w) % 64);
+            unless(d == 0, Effect::Set(d, v))
+        }
         0b010 => Effect::Helper,
         0b011 => Effect::Helper,
         0b100 => cr(x, w, ignore_ebreak, pc),

@@ -92,9 +92,10 @@ fn funct10(w: u32) -> u32
 }
 
 // OP, by funct7 and funct3.
-fn op(n: u32, x: u64, y: u64) -> Computed
-    ensures { λ r. ⌜ r ≡ S.computed D.ops n x y Computed.Reserved ⌝ }
+fn op(w: u32, x: u64, y: u64) -> Computed
+    ensures { λ r. ⌜ r ≡ S.computed D.ops (D.funct10 w) x y Computed.Reserved ⌝ }
 {
+    let n = funct10(w);
     match n {
         0b0000000_000 => Computed::Value(std::num::wrapping_add_u64(x, y)),
         0b0100000_000 => Computed::Value(word::sub(x, y)),
@@ -128,9 +129,10 @@ fn op_m(n: u32, x: u64, y: u64) -> Computed
 }
 
 // OP-32, by funct7 and funct3.
-fn op_32(n: u32, x: u64, y: u64) -> Computed
-    ensures { λ r. ⌜ r ≡ S.computed D.ops32 n x y Computed.Reserved ⌝ }
+fn op_32(w: u32, x: u64, y: u64) -> Computed
+    ensures { λ r. ⌜ r ≡ S.computed D.ops32 (D.funct10 w) x y Computed.Reserved ⌝ }
 {
+    let n = funct10(w);
     match n {
         0b0000000_000 => Computed::Value(sextw(std::num::wrapping_add_u64(x, y))),
         0b0100000_000 => Computed::Value(sextw(word::sub(x, y))),
@@ -209,6 +211,19 @@ fn op_imm_32(w: u32, x: u64) -> Computed
     }
 }
 
+// What the arithmetic instructions compute of rs1 and rs2, by opcode.
+fn arithmetic(w: u32, x: u64, y: u64) -> Computed
+    ensures { λ r. ⌜ r ≡ S.arithmetic w x y ⌝ }
+{
+    match w % 128 {
+        OP_IMM => op_imm(w, x),
+        OP_IMM_32 => op_imm_32(w, x),
+        OP => op(w, x, y),
+        OP_32 => op_32(w, x, y),
+        _ => Computed::Reserved,
+    }
+}
+
 // A branch to one of two places.
 fn branch(n: u32, x: u64, y: u64, to: u64, next: u64) -> Effect
     ensures { λ r. ⌜ r ≡ S.branched n x y to next ⌝ }
@@ -244,10 +259,6 @@ fn effect32(x: &[u64; 32], w: u32, pc: u64, next: u64) -> Effect
     let a = read(x, w / 0x8000 % 32);
     let b = read(x, w / 0x10_0000 % 32);
     match w % 128 {
-        OP => put(rd, op(funct10(w), a, b)),
-        OP_IMM => put(rd, op_imm(w, a)),
-        OP_32 => put(rd, op_32(funct10(w), a, b)),
-        OP_IMM_32 => put(rd, op_imm_32(w, a)),
         LUI => Effect::Set(rd, isa::decode::imm_u(w)),
         AUIPC => Effect::Set(rd, std::num::wrapping_add_u64(pc, isa::decode::imm_u(w))),
         JAL => Effect::Link(rd, std::num::wrapping_add_u64(pc, isa::decode::imm_j(w))),
@@ -266,7 +277,7 @@ fn effect32(x: &[u64; 32], w: u32, pc: u64, next: u64) -> Effect
         STORE_FP => Effect::Helper,
         AMO => Effect::Helper,
         SYSTEM => Effect::Uncovered,
-        _ => Effect::Uncovered,
+        _ => put(rd, arithmetic(w, a, b)),
     }
 }
 

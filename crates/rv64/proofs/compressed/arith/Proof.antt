@@ -1,8 +1,8 @@
-use Rattle.rv64.specs.declared.alu.Alu.{Alu}
-use Rattle.rv64.specs.declared.execute.Computed.{Computed}
-use Rattle.rv64.specs.Alu as N
-use Rattle.rv64.specs.Compressed as C
 use Rattle.rv64.proofs.Tables.{missed}
+use Rattle.rv64.specs.Compressed as C
+use Rattle.rv64.specs.Alu as N
+use Rattle.rv64.specs.declared.execute.Computed.{Computed}
+use Rattle.rv64.specs.declared.alu.Alu.{Alu}
 use borrow.Author.Needs.{needs}
 use Rattle.rv64.proofs.compressed.arith.Statement.{statement}
 use Rattle.rv64.proofs.compressed.arith.Tie as tie
@@ -33,12 +33,14 @@ returns-6 c = rw (c .sextw2 .ensures, c .before .wrapping-add-u64 .ensures, c .b
 
 returns-7 : tie.Need-returns-7
 unfolding N.value C.ariths
-returns-7 c = missed _ (λ (k : Alu). Computed.Value (N.value k (c .before .args .x) (c .before .args .y))) _ _ C.ariths (c .match .rest)
+returns-7 c = missed _ (λ (k : Alu). Computed.Value (N.value k (c .before .args .x) (c .before .args .y))) _ _ (C.ariths) (c .match .rest)
 
 pub arith-spec : {M : Type 1} → statement M
 arith-spec =
     tie.close
     (tie.spec
+    (λ c. search needs)
+    (λ c. search needs)
     (λ c κs. search needs)
     (λ c κs. search needs)
     (λ c κs. search needs)

@@ -1,4 +1,6 @@
 use native.Mathlib.Omega.{arith}
+use mathlib.Core.Path.{refl}
+use Rattle.rv64.proofs.Steps as T
 use Rattle.rv64.specs.Step as S
 use Rattle.rv64.specs.Execute as X
 use Rattle.rv64.specs.Compressed as C
@@ -9,24 +11,20 @@ use Rattle.rv64.proofs.compressed.ebreak_jalr_add.Statement.{statement}
 use Rattle.rv64.proofs.compressed.ebreak_jalr_add.Tie as tie
 
 returns : tie.Need-returns
-unfolding C.ebreakJalrAdd C.unless0 S.applied X.exec N.value
-returns c = (omega arith, rw (eq-eqb _ _ (c .if2 .taken), ne-eqb _ _ (c .before .if1 .taken)))
+unfolding C.ebreakJalrAdd S.applied X.exec N.value
+returns c = rw (c .unless .ensures, c .before .wrapping-add-u64 .ensures, c .before .before .read2 .ensures, ne-eqb _ _ (c .before .before .before .if1 .taken), c .before .before .before .before .read .ensures) (T.unless (c .before .before .before .before .before .args .w) (c .before .before .before .before .before .args .pc) (c .before .before .before .before .before .args .x .now) _ _ _ (omega arith, refl))
 
 returns-2 : tie.Need-returns-2
-unfolding C.ebreakJalrAdd C.unless0 S.applied X.exec N.value
-returns-2 c = (omega arith, rw (c .wrapping-add-u64 .ensures, c .before .read2 .ensures, ne-eqb _ _ (c .before .before .if2 .left), ne-eqb _ _ (c .before .before .before .if1 .taken), c .before .before .before .before .read .ensures))
+unfolding C.ebreakJalrAdd S.applied X.exec N.value
+returns-2 c = (omega arith, rw (c .wrapping-add-u642 .ensures, ne-eqb _ _ (c .before .if2 .taken), eq-eqb _ _ (c .before .before .if1 .left), c .before .before .before .read .ensures))
 
 returns-3 : tie.Need-returns-3
-unfolding C.ebreakJalrAdd C.unless0 S.applied X.exec N.value
-returns-3 c = (omega arith, rw (c .wrapping-add-u642 .ensures, ne-eqb _ _ (c .before .if3 .taken), eq-eqb _ _ (c .before .before .if1 .left), c .before .before .before .read .ensures))
+unfolding C.ebreakJalrAdd S.applied X.exec N.value
+returns-3 c = (omega arith, rw (c .if3 .taken, eq-eqb _ _ (c .before .if2 .left), eq-eqb _ _ (c .before .before .if1 .left)))
 
 returns-4 : tie.Need-returns-4
-unfolding C.ebreakJalrAdd C.unless0 S.applied X.exec N.value
-returns-4 c = (omega arith, rw (c .if4 .taken, eq-eqb _ _ (c .before .if3 .left), eq-eqb _ _ (c .before .before .if1 .left)))
-
-returns-5 : tie.Need-returns-5
-unfolding C.ebreakJalrAdd C.unless0 S.applied X.exec N.value
-returns-5 c = (omega arith, rw (c .if4 .left, eq-eqb _ _ (c .before .if3 .left), eq-eqb _ _ (c .before .before .if1 .left)))
+unfolding C.ebreakJalrAdd S.applied X.exec N.value
+returns-4 c = (omega arith, rw (c .if3 .left, eq-eqb _ _ (c .before .if2 .left), eq-eqb _ _ (c .before .before .if1 .left)))
 
 pub ebreak-jalr-add-spec : {M : Type 1} → statement M
 ebreak-jalr-add-spec =
@@ -35,12 +33,12 @@ ebreak-jalr-add-spec =
     (λ c. search needs)
     (λ c. search needs)
     (λ c κs. search needs)
+    (λ c κs. search needs)
+    (λ c κs. search needs)
+    (λ c κs. search needs)
     returns
     (λ c κs. search needs)
-    (λ c κs. search needs)
-    returns-2
-    (λ c κs. search needs)
     (λ c. search needs)
+    returns-2
     returns-3
-    returns-4
-    returns-5)
+    returns-4)

@@ -1,4 +1,5 @@
 use native.Mathlib.Omega.{arith}
+use mathlib.Core.Path.{refl}
 use Rattle.rv64.proofs.Steps as T
 use Rattle.rv64.specs.Step as S
 use Rattle.rv64.specs.Execute as X
@@ -10,20 +11,12 @@ use Rattle.rv64.proofs.compressed.jr_mv.Statement.{statement}
 use Rattle.rv64.proofs.compressed.jr_mv.Tie as tie
 
 returns : tie.Need-returns
-unfolding C.jrMv C.unless0 S.applied X.exec N.value
-returns c = (omega arith, rw (eq-eqb _ _ (c .if2 .taken), eq-eqb _ _ (c .before .if1 .taken)))
+unfolding C.jrMv S.applied X.exec N.value
+returns c = rw (c .unless .ensures, c .before .wrapping-add-u64 .ensures, c .before .before .read .ensures, eq-eqb _ _ (c .before .before .before .if1 .taken)) (T.unless (c .before .before .before .before .args .w) (c .before .before .before .before .args .pc) (c .before .before .before .before .args .x .now) _ _ _ (omega arith, rw T.write-zero))
 
 returns-2 : tie.Need-returns-2
-unfolding C.jrMv C.unless0 S.applied X.exec N.value
-returns-2 c = (omega arith, rw (c .wrapping-add-u64 .ensures, c .before .read .ensures, ne-eqb _ _ (c .before .before .if2 .left), eq-eqb _ _ (c .before .before .before .if1 .taken), T.write-zero))
-
-returns-3 : tie.Need-returns-3
-unfolding C.jrMv C.unless0 S.applied X.exec N.value
-returns-3 c = (omega arith, rw (eq-eqb _ _ (c .if3 .taken), ne-eqb _ _ (c .before .if1 .left)))
-
-returns-4 : tie.Need-returns-4
-unfolding C.jrMv C.unless0 S.applied X.exec N.value
-returns-4 c = (omega arith, rw (c .wrapping-add-u642 .ensures, c .before .read2 .ensures, ne-eqb _ _ (c .before .before .if3 .left), ne-eqb _ _ (c .before .before .before .if1 .left), T.read-zero))
+unfolding C.jrMv S.applied X.exec N.value
+returns-2 c = rw (c .unless2 .ensures, c .before .wrapping-add-u642 .ensures, c .before .before .read2 .ensures, ne-eqb _ _ (c .before .before .before .if1 .left)) (T.unless (c .before .before .before .before .args .w) (c .before .before .before .before .args .pc) (c .before .before .before .before .args .x .now) _ _ _ (omega arith, rw T.read-zero))
 
 pub jr-mv-spec : {M : Type 1} → statement M
 jr-mv-spec =
@@ -31,12 +24,12 @@ jr-mv-spec =
     (tie.spec
     (λ c. search needs)
     (λ c. search needs)
-    returns
     (λ c κs. search needs)
     (λ c κs. search needs)
     (λ c. search needs)
-    returns-2
-    returns-3
+    (λ c κs. search needs)
+    returns
     (λ c κs. search needs)
     (λ c κs. search needs)
-    returns-4)
+    (λ c κs. search needs)
+    returns-2)

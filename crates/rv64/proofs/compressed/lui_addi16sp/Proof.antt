@@ -1,4 +1,7 @@
 use native.Mathlib.Omega.{arith}
+use mathlib.Core.Path.{refl}
+use Rattle.rv64.proofs.Steps as T
+use Rattle.rv64.specs.Alu as N
 use Rattle.rv64.specs.Step as S
 use Rattle.rv64.specs.Execute as X
 use Rattle.rv64.specs.Compressed as C
@@ -8,20 +11,12 @@ use Rattle.rv64.proofs.compressed.lui_addi16sp.Statement.{statement}
 use Rattle.rv64.proofs.compressed.lui_addi16sp.Tie as tie
 
 returns : tie.Need-returns
-unfolding C.luiAddi16sp
-returns c = rw (eq-eqb _ _ (c .before .before .if1 .taken), ← c .before .imm-ci16 .ensures) (c .addi-unless0 .ensures)
+unfolding C.luiAddi16sp S.applied X.exec N.value
+returns c = rw (c .unless .ensures, c .before .wrapping-add-u64 .ensures, c .before .before .read .ensures, c .before .before .before .imm-ci16 .ensures, eq-eqb _ _ (c .before .before .before .before .if1 .taken)) (T.unless (c .before .before .before .before .before .args .w) (c .before .before .before .before .before .args .pc) (c .before .before .before .before .before .args .x .now) _ _ _ (omega arith, refl))
 
 returns-2 : tie.Need-returns-2
-unfolding C.luiAddi16sp C.unless0 S.applied X.exec
-returns-2 c = (omega arith, rw (eq-eqb _ _ (c .if2 .taken), ne-eqb _ _ (c .before .if1 .left)))
-
-returns-3 : tie.Need-returns-3
-unfolding C.luiAddi16sp C.unless0 S.applied X.exec
-returns-3 c = (omega arith, rw (← c .before .imm-ci .ensures, eq-eqb _ _ (c .if3 .taken), ne-eqb _ _ (c .before .before .if2 .left), ne-eqb _ _ (c .before .before .before .if1 .left)))
-
-returns-4 : tie.Need-returns-4
-unfolding C.luiAddi16sp C.unless0 S.applied X.exec
-returns-4 c = (omega arith, rw (← c .before .imm-ci .ensures, ne-eqb _ _ (c .if3 .left), ne-eqb _ _ (c .before .before .if2 .left), ne-eqb _ _ (c .before .before .before .if1 .left)))
+unfolding C.luiAddi16sp S.applied X.exec N.value
+returns-2 c = rw (c .unless3 .ensures, c .before .unless2 .ensures, c .before .before .imm-ci .ensures, ne-eqb _ _ (c .before .before .before .if1 .left)) (T.unless (c .before .before .before .before .args .w) (c .before .before .before .before .args .pc) (c .before .before .before .before .args .x .now) _ _ _ (T.unless (c .before .before .before .before .args .w) (c .before .before .before .before .args .pc) (c .before .before .before .before .args .x .now) _ _ _ (omega arith, refl)))
 
 pub lui-addi16sp-spec : {M : Type 1} → statement M
 lui-addi16sp-spec =
@@ -30,8 +25,10 @@ lui-addi16sp-spec =
     (λ c. search needs)
     (λ c κs. search needs)
     (λ c κs. search needs)
-    returns
-    returns-2
     (λ c κs. search needs)
-    returns-3
-    returns-4)
+    (λ c κs. search needs)
+    returns
+    (λ c κs. search needs)
+    (λ c κs. search needs)
+    (λ c κs. search needs)
+    returns-2)

@@ -1,6 +1,7 @@
-use mathlib.Core.Path.{refl}
 use native.Mathlib.Omega.{arith}
+use mathlib.Core.Path.{refl}
 use Rattle.rv64.proofs.Tables.{missed}
+use Rattle.rv64.proofs.Steps as T
 use Rattle.rv64.specs.Alu as N
 use Rattle.rv64.specs.Step as S
 use Rattle.rv64.specs.Execute as X
@@ -14,12 +15,12 @@ unfolding C.quadrant1 C.table1 S.applied X.exec X.read X.write N.value N.taken
 returns c = (omega arith, rw (c .wrapping-add-u64 .ensures, c .before .match .keys1, c .before .before .imm-ci .ensures, c .before .before .before .read .ensures))
 
 returns-2 : tie.Need-returns-2
-unfolding C.quadrant1 C.table1
-returns-2 c = rw (c .before .match .keys2) (c .addiw .ensures)
+unfolding C.quadrant1 C.table1 S.applied X.exec N.value
+returns-2 c = rw (c .unless .ensures, c .before .sextw .ensures, c .before .before .wrapping-add-u642 .ensures, c .before .before .before .match .keys2, c .before .before .before .before .imm-ci .ensures, c .before .before .before .before .before .read .ensures) (T.unless (c .before .before .before .before .before .before .args .w) (c .before .before .before .before .before .before .args .pc) (c .before .before .before .before .before .before .args .x .now) _ _ _ (omega arith, refl))
 
 returns-3 : tie.Need-returns-3
 unfolding C.quadrant1 C.table1 S.applied X.exec X.read X.write N.value N.taken
-returns-3 c = (omega arith, rw (c .wrapping-add-u642 .ensures, c .before .match .keys3, c .before .before .imm-ci .ensures))
+returns-3 c = (omega arith, rw (c .wrapping-add-u643 .ensures, c .before .match .keys3, c .before .before .imm-ci .ensures))
 
 returns-4 : tie.Need-returns-4
 unfolding C.quadrant1 C.table1
@@ -31,7 +32,7 @@ returns-5 c = rw (c .before .match .keys5) (c .misc-alu .ensures)
 
 returns-6 : tie.Need-returns-6
 unfolding C.quadrant1 C.table1 S.applied X.exec X.read X.write N.value N.taken
-returns-6 c = (omega arith, rw (c .wrapping-add-u643 .ensures, c .before .imm-cj .ensures, c .before .before .match .keys6))
+returns-6 c = (omega arith, rw (c .wrapping-add-u644 .ensures, c .before .imm-cj .ensures, c .before .before .match .keys6))
 
 returns-7 : tie.Need-returns-7
 unfolding C.quadrant1 C.table1 S.applied X.exec X.read X.write N.value N.taken
@@ -50,6 +51,8 @@ quadrant1-spec =
     tie.close
     (tie.spec
     (λ c. search needs)
+    (λ c κs. search needs)
+    (λ c κs. search needs)
     (λ c κs. search needs)
     (λ c κs. search needs)
     (λ c κs. search needs)

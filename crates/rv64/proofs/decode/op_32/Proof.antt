@@ -10,36 +10,37 @@ use Rattle.rv64.proofs.decode.op_32.Tie as tie
 
 returns : tie.Need-returns
 unfolding N.value D.ops32
-returns c = rw (c .sextw .ensures, c .before .wrapping-add-u64 .ensures, c .before .before .match .keys1)
+returns c = rw (c .sextw .ensures, c .before .wrapping-add-u64 .ensures, ← c .before .before .before .funct10 .ensures, c .before .before .match .keys1)
 
 returns-2 : tie.Need-returns-2
 unfolding N.value D.ops32
-returns-2 c = rw (c .sextw2 .ensures, c .before .sub .ensures, c .before .before .match .keys2)
+returns-2 c = rw (c .sextw2 .ensures, c .before .sub .ensures, ← c .before .before .before .funct10 .ensures, c .before .before .match .keys2)
 
 returns-3 : tie.Need-returns-3
 unfolding N.value D.ops32
-returns-3 c = rw (c .sextw3 .ensures, c .before .match .keys3)
+returns-3 c = rw (c .sextw3 .ensures, ← c .before .before .funct10 .ensures, c .before .match .keys3)
 
 returns-4 : tie.Need-returns-4
 unfolding N.value D.ops32
-returns-4 c = rw (c .sextw4 .ensures, c .before .match .keys4)
+returns-4 c = rw (c .sextw4 .ensures, ← c .before .before .funct10 .ensures, c .before .match .keys4)
 
 returns-5 : tie.Need-returns-5
 unfolding N.value D.ops32
-returns-5 c = rw (c .sextw6 .ensures, c .before .asr .ensures, c .before .before .sextw5 .ensures, c .before .before .before .match .keys5)
+returns-5 c = rw (c .sextw6 .ensures, c .before .asr .ensures, c .before .before .sextw5 .ensures, ← c .before .before .before .before .funct10 .ensures, c .before .before .before .match .keys5)
 
 returns-6 : tie.Need-returns-6
 unfolding N.value D.ops32
-returns-6 c = rw (c .sextw7 .ensures, c .before .mul .ensures, c .before .before .match .keys6)
+returns-6 c = rw (c .sextw7 .ensures, c .before .mul .ensures, ← c .before .before .before .funct10 .ensures, c .before .before .match .keys6)
 
 returns-7 : tie.Need-returns-7
 unfolding N.value D.ops32
-returns-7 c = rw (c .division-32 .ensures) (missed _ (λ (k : Alu). Computed.Value (N.value k (c .before .before .args .x) (c .before .before .args .y))) _ _ (take 6 D.ops32) (c .before .match .rest))
+returns-7 c = rw (c .division-32 .ensures, ← c .before .before .funct10 .ensures) (missed _ (λ (k : Alu). Computed.Value (N.value k (c .before .before .before .args .x) (c .before .before .before .args .y))) _ _ (take 6 D.ops32) (c .before .match .rest))
 
 pub op-32-spec : {M : Type 1} → statement M
 op-32-spec =
     tie.close
     (tie.spec
+    (λ c κs. search needs)
     (λ c κs. search needs)
     (λ c κs. search needs)
     (λ c κs. search needs)
