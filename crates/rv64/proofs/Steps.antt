@@ -35,8 +35,8 @@ unfolding write
 write-zero x v = refl
 
 -- the opcodes, in the order of the stepper's `match`
-abbrev others : D.Table ℕ
-others = (0x37, 0) ∷ (0x17, 0) ∷ (0x6F, 0) ∷ (0x67, 0) ∷ (0x63, 0) ∷ (0x0F, 0) ∷ (0x03, 0) ∷ (0x23, 0) ∷ (0x07, 0) ∷ (0x27, 0) ∷ (0x2F, 0) ∷ (0x73, 0) ∷ []
+abbrev computing : D.Table ℕ
+computing = (0x33, 0) ∷ (0x13, 0) ∷ (0x3B, 0) ∷ (0x1B, 0) ∷ (0x37, 0) ∷ (0x17, 0) ∷ (0x6F, 0) ∷ (0x67, 0) ∷ (0x63, 0) ∷ []
 
 -- the registers that are set
 
@@ -77,21 +77,6 @@ module _ (w pc : ℕ) (x : List ℕ) where
       table 4 (rd w) _ _ (omega N.arith) D.imms32 (funct3 w) (D.imm w) (λ k. refl) _ _
       (table 4 (rd w) _ _ (omega N.arith) D.shifts32 (D.funct10 w) (D.shiftw w) (λ k. refl) _ _ refl .1)
 
-  abbrev done-by : Computed → Step
-  done-by c = S.applied (S.put c (rd w)) (add pc 4) x
-
-  abbrev done : Class → Step
-  done k = exec (D.byClass k w) 4 pc x
-
-  -- where the opcode is none that the stepper's `match` has before it
-  pub arithmetic : (P : Type 0) → Missed P others (w % 128) → S.Gives (S.put (S.arithmetic w (read x (rs1 w)) (read x (rs2 w))) (rd w)) (D.decode32 w) 4 pc x
-  unfolding S.arithmetic S.arithmetics S.put S.applied exec D.decode32 D.byClass D.op D.op32 classOf
-  arithmetic P h = (
-    put-sets (S.arithmetic w (read x (rs1 w)) (read x (rs2 w))) (rd w) (omega N.arith),
-    simp (ne-eqb _ _ (h .1), ne-eqb _ _ (h .0 .1), ne-eqb _ _ (h .0 .0 .1), ne-eqb _ _ (h .0 .0 .0 .1), ne-eqb _ _ (h .0 .0 .0 .0 .1), ne-eqb _ _ (h .0 .0 .0 .0 .0 .1), ne-eqb _ _ (h .0 .0 .0 .0 .0 .0 .1), ne-eqb _ _ (h .0 .0 .0 .0 .0 .0 .0 .1), ne-eqb _ _ (h .0 .0 .0 .0 .0 .0 .0 .0 .1), ne-eqb _ _ (h .0 .0 .0 .0 .0 .0 .0 .0 .0 .1), ne-eqb _ _ (h .0 .0 .0 .0 .0 .0 .0 .0 .0 .0 .1), ne-eqb _ _ (h .0 .0 .0 .0 .0 .0 .0 .0 .0 .0 .0 .1))
-        (either done-by done (eqb (w % 128) 0x13) (op-imm .1) (either done-by done (eqb (w % 128) 0x1B) (op-imm-32 .1) (either done-by done (eqb (w % 128) 0x33) (op D.ops .1) (either done-by done (eqb (w % 128) 0x3B) (op D.ops32 .1) refl)))),
-  )
-
   pub branch : S.Gives (S.branched (funct3 w) (read x (rs1 w)) (read x (rs2 w)) (add pc (immB w)) (add pc 4)) (D.branch w) 4 pc x
   unfolding S.branched D.branch S.applied exec
   branch = (
@@ -104,6 +89,24 @@ module _ (w pc : ℕ) (x : List ℕ) where
   unfolding S.below D.below S.applied exec
   below n i e p q =
       (pick-sets (ltb (funct3 w) n) _ _ p (omega N.arith), either (λ (f : Effect). S.applied f (add pc 4) x) (λ (j : Instr). exec j 4 pc x) (ltb (funct3 w) n) q refl)
+
+  abbrev done-by : Effect → Step
+  done-by e = S.applied e (add pc 4) x
+
+  abbrev done : Class → Step
+  done k = exec (D.byClass k w) 4 pc x
+
+  -- where the opcode is none that the stepper's `match` has before it
+  pub other : (P : Type 0) → Missed P computing (w % 128) → S.Gives (S.other w) (D.decode32 w) 4 pc x
+  unfolding S.other S.others S.applied exec D.decode32 D.byClass classOf
+  other P h =
+      let load = below 7 Instr.Helper Effect.Helper (omega N.arith) refl in
+      let misc = below 2 Instr.Nop Effect.Next (omega N.arith) refl in
+      let store = below 4 Instr.Helper Effect.Helper (omega N.arith) refl in (
+        pick-sets (eqb (w % 128) 0x03) _ _ (load .0) (pick-sets (eqb (w % 128) 0x07) _ _ (omega N.arith) (pick-sets (eqb (w % 128) 0x0F) _ _ (misc .0) (pick-sets (eqb (w % 128) 0x23) _ _ (store .0) (pick-sets (eqb (w % 128) 0x27) _ _ (omega N.arith) (pick-sets (eqb (w % 128) 0x2F) _ _ (omega N.arith) (pick-sets (eqb (w % 128) 0x73) _ _ (omega N.arith) (omega N.arith))))))),
+        simp (ne-eqb _ _ (h .1), ne-eqb _ _ (h .0 .1), ne-eqb _ _ (h .0 .0 .1), ne-eqb _ _ (h .0 .0 .0 .1), ne-eqb _ _ (h .0 .0 .0 .0 .1), ne-eqb _ _ (h .0 .0 .0 .0 .0 .1), ne-eqb _ _ (h .0 .0 .0 .0 .0 .0 .1), ne-eqb _ _ (h .0 .0 .0 .0 .0 .0 .0 .1), ne-eqb _ _ (h .0 .0 .0 .0 .0 .0 .0 .0 .1))
+            (either done-by done (eqb (w % 128) 0x03) (load .1) (either done-by done (eqb (w % 128) 0x07) refl (either done-by done (eqb (w % 128) 0x0F) (misc .1) (either done-by done (eqb (w % 128) 0x23) (store .1) (either done-by done (eqb (w % 128) 0x27) refl (either done-by done (eqb (w % 128) 0x2F) refl (either done-by done (eqb (w % 128) 0x73) refl refl))))))),
+      )
 
   -- C.SUB and the others of its group
   pub arith : S.Gives (S.put (S.computed C.ariths (inst 12 12 w * 4 + inst 6 5 w) (read x (highReg w)) (read x (lowReg w)) Computed.Reserved) (highReg w)) (C.arith w) 2 pc x

@@ -20,7 +20,7 @@ use Rattle.rv64.specs.declared.run.Stop.{Stop}
 use Rattle.rv64.specs.declared.run.Refusal.{Refusal}
 use Rattle.rv64.specs.declared.run.Answer.{Answer}
 use Rattle.rv64.specs.Alu.{value, taken}
-use Rattle.rv64.specs.Decode.{Table, lookup, ops, ops32, imms, shifts, imms32, shifts32, branches, funct10}
+use Rattle.rv64.specs.Decode.{Table, lookup, imms, shifts, imms32, shifts32, branches, funct10}
 use Rattle.rv64.specs.Execute as X
 use Rattle.rv64.specs.Execute.{Step, exec, next, write}
 use Rattle.rv64.specs.Run.{halfword, word, hart}
@@ -67,18 +67,6 @@ shiftImm32 w x = computed shifts32 (funct10 w) x (inst 24 20 w) Computed.Reserve
 unfoldable pub opImm32 : ℕ → ℕ → Computed
 opImm32 w x = computed imms32 (funct3 w) x (immI w) (shiftImm32 w x)
 
--- by opcode: OP-IMM, OP-IMM-32, OP, OP-32
-unfoldable pub arithmetics : ℕ → ℕ → ℕ → Table Computed
-arithmetics w x y =
-    (0x13, opImm w x)
-    ∷ (0x1B, opImm32 w x)
-    ∷ (0x33, computed ops (funct10 w) x y Computed.Reserved)
-    ∷ (0x3B, computed ops32 (funct10 w) x y Computed.Reserved)
-    ∷ []
-
-unfoldable pub arithmetic : ℕ → ℕ → ℕ → Computed
-arithmetic w x y = lookup (arithmetics w x y) (opcode w) (λ (c : Computed). c) Computed.Reserved
-
 -- a computed value in rd
 unfoldable pub put : Computed → ℕ → Effect
 put (Computed.Value v) rd = Effect.Set rd v
@@ -92,6 +80,21 @@ branched n x y to pc = lookup branches n (λ (k : Cond). ended (taken k x y) to 
 
 unfoldable pub below : ℕ → ℕ → Effect → Effect
 below w n e = cond (ltb (funct3 w) n) e Effect.Uncovered
+
+-- by opcode: LOAD, LOAD-FP, MISC-MEM, STORE, STORE-FP, AMO, SYSTEM
+unfoldable pub others : ℕ → Table Effect
+others w =
+    (0x03, below w 7 Effect.Helper)
+    ∷ (0x07, Effect.Helper)
+    ∷ (0x0F, below w 2 Effect.Next)
+    ∷ (0x23, below w 4 Effect.Helper)
+    ∷ (0x27, Effect.Helper)
+    ∷ (0x2F, Effect.Helper)
+    ∷ (0x73, Effect.Uncovered)
+    ∷ []
+
+unfoldable pub other : ℕ → Effect
+other w = lookup (others w) (opcode w) (λ (e : Effect). e) Effect.Uncovered
 
 -- ---- the run
 

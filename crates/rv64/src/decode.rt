@@ -1,7 +1,6 @@
 // The 32-bit encodings, and what their instructions do.
 ghost use mathlib.Core.Path.{_≡_};
 ghost use Prim.Native.Nat.{_<_};
-ghost use lib.ListN.{drop};
 ghost use Rattle.isa.specs.Formats as F;
 ghost use Rattle.word.specs.Word as W;
 ghost use Rattle.rv64.specs.Decode as D;
@@ -95,8 +94,7 @@ fn funct10(w: u32) -> u32
 fn op(w: u32, x: u64, y: u64) -> Computed
     ensures { λ r. ⌜ r ≡ S.computed D.ops (D.funct10 w) x y Computed.Reserved ⌝ }
 {
-    let n = funct10(w);
-    match n {
+    match funct10(w) {
         0b0000000_000 => Computed::Value(std::num::wrapping_add_u64(x, y)),
         0b0100000_000 => Computed::Value(word::sub(x, y)),
         0b0000000_001 => Computed::Value(x << (y % 64)),
@@ -107,15 +105,6 @@ fn op(w: u32, x: u64, y: u64) -> Computed
         0b0100000_101 => Computed::Value(word::asr(x, (y % 64) as u32)),
         0b0000000_110 => Computed::Value(x | y),
         0b0000000_111 => Computed::Value(x & y),
-        _ => op_m(n, x, y),
-    }
-}
-
-// OP of extension M.
-fn op_m(n: u32, x: u64, y: u64) -> Computed
-    ensures { λ r. ⌜ r ≡ S.computed (drop 10 D.ops) n x y Computed.Reserved ⌝ }
-{
-    match n {
         0b0000001_000 => Computed::Value(word::mul(x, y)),
         0b0000001_001 => Computed::Value(word::mulh(x, y)),
         0b0000001_010 => Computed::Value(word::mulhsu(x, y)),
@@ -128,31 +117,21 @@ fn op_m(n: u32, x: u64, y: u64) -> Computed
     }
 }
 
-// OP-32, by funct7 and funct3.
+// OP-32, by funct7 and funct3; its divisions take these words.
 fn op_32(w: u32, x: u64, y: u64) -> Computed
     ensures { λ r. ⌜ r ≡ S.computed D.ops32 (D.funct10 w) x y Computed.Reserved ⌝ }
-{
-    let n = funct10(w);
-    match n {
-        0b0000000_000 => Computed::Value(sextw(std::num::wrapping_add_u64(x, y))),
-        0b0100000_000 => Computed::Value(sextw(word::sub(x, y))),
-        0b0000000_001 => Computed::Value(sextw(x << (y % 32))),
-        0b0000000_101 => Computed::Value(sextw(x % 0x1_0000_0000 >> (y % 32))),
-        0b0100000_101 => Computed::Value(sextw(word::asr(sextw(x), (y % 32) as u32))),
-        0b0000001_000 => Computed::Value(sextw(word::mul(x, y))),
-        _ => division_32(n, x, y),
-    }
-}
-
-// The divisions of OP-32, which take these words.
-fn division_32(n: u32, x: u64, y: u64) -> Computed
-    ensures { λ r. ⌜ r ≡ S.computed (drop 6 D.ops32) n x y Computed.Reserved ⌝ }
 {
     let xw = sextw(x);
     let yw = sextw(y);
     let xu = x % 0x1_0000_0000;
     let yu = y % 0x1_0000_0000;
-    match n {
+    match funct10(w) {
+        0b0000000_000 => Computed::Value(sextw(std::num::wrapping_add_u64(x, y))),
+        0b0100000_000 => Computed::Value(sextw(word::sub(x, y))),
+        0b0000000_001 => Computed::Value(sextw(x << (y % 32))),
+        0b0000000_101 => Computed::Value(sextw(xu >> (y % 32))),
+        0b0100000_101 => Computed::Value(sextw(word::asr(xw, (y % 32) as u32))),
+        0b0000001_000 => Computed::Value(sextw(word::mul(x, y))),
         0b0000001_100 => Computed::Value(sextw(quotient(0xFFFF_FFFF_8000_0000, xw, yw))),
         0b0000001_101 => Computed::Value(sextw(quotient_u(0xFFFF_FFFF, xu, yu))),
         0b0000001_110 => Computed::Value(sextw(remainder(0xFFFF_FFFF_8000_0000, xw, yw))),
@@ -211,19 +190,6 @@ fn op_imm_32(w: u32, x: u64) -> Computed
     }
 }
 
-// What the arithmetic instructions compute of rs1 and rs2, by opcode.
-fn arithmetic(w: u32, x: u64, y: u64) -> Computed
-    ensures { λ r. ⌜ r ≡ S.arithmetic w x y ⌝ }
-{
-    match w % 128 {
-        OP_IMM => op_imm(w, x),
-        OP_IMM_32 => op_imm_32(w, x),
-        OP => op(w, x, y),
-        OP_32 => op_32(w, x, y),
-        _ => Computed::Reserved,
-    }
-}
-
 // A branch to one of two places.
 fn branch(n: u32, x: u64, y: u64, to: u64, next: u64) -> Effect
     ensures { λ r. ⌜ r ≡ S.branched n x y to next ⌝ }
@@ -250,6 +216,22 @@ fn below(w: u32, n: u32, e: Effect) -> Effect
     }
 }
 
+// The other opcodes, which set no register.
+fn other(w: u32) -> Effect
+    ensures { λ r. ⌜ r ≡ S.other w ⌝ }
+{
+    match w % 128 {
+        LOAD => below(w, 7, Effect::Helper),
+        LOAD_FP => Effect::Helper,
+        MISC_MEM => below(w, 2, Effect::Next),
+        STORE => below(w, 4, Effect::Helper),
+        STORE_FP => Effect::Helper,
+        AMO => Effect::Helper,
+        SYSTEM => Effect::Uncovered,
+        _ => Effect::Uncovered,
+    }
+}
+
 // What the instruction of the word w at pc does; next is the address behind it.
 fn effect32(x: &[u64; 32], w: u32, pc: u64, next: u64) -> Effect
     requires { ⌜ next ≡ W.add pc 4 ⌝ }
@@ -259,6 +241,10 @@ fn effect32(x: &[u64; 32], w: u32, pc: u64, next: u64) -> Effect
     let a = read(x, w / 0x8000 % 32);
     let b = read(x, w / 0x10_0000 % 32);
     match w % 128 {
+        OP => put(rd, op(w, a, b)),
+        OP_IMM => put(rd, op_imm(w, a)),
+        OP_32 => put(rd, op_32(w, a, b)),
+        OP_IMM_32 => put(rd, op_imm_32(w, a)),
         LUI => Effect::Set(rd, isa::decode::imm_u(w)),
         AUIPC => Effect::Set(rd, std::num::wrapping_add_u64(pc, isa::decode::imm_u(w))),
         JAL => Effect::Link(rd, std::num::wrapping_add_u64(pc, isa::decode::imm_j(w))),
@@ -270,14 +256,7 @@ fn effect32(x: &[u64; 32], w: u32, pc: u64, next: u64) -> Effect
             let to = std::num::wrapping_add_u64(pc, isa::decode::imm_b(w));
             branch(w / 4096 % 8, a, b, to, next)
         }
-        MISC_MEM => below(w, 2, Effect::Next),
-        LOAD => below(w, 7, Effect::Helper),
-        STORE => below(w, 4, Effect::Helper),
-        LOAD_FP => Effect::Helper,
-        STORE_FP => Effect::Helper,
-        AMO => Effect::Helper,
-        SYSTEM => Effect::Uncovered,
-        _ => put(rd, arithmetic(w, a, b)),
+        _ => other(w),
     }
 }
 

@@ -1,4 +1,3 @@
-use lib.ListN.{drop, take}
 use Rattle.rv64.proofs.Tables.{missed}
 use Rattle.rv64.specs.Decode as D
 use Rattle.rv64.specs.Alu as N
@@ -50,7 +49,39 @@ returns-10 c = rw (← c .before .funct10 .ensures, c .match .keys10)
 
 returns-11 : tie.Need-returns-11
 unfolding N.value D.ops
-returns-11 c = rw (c .op-m .ensures, ← c .before .before .funct10 .ensures) (missed _ (λ (k : Alu). Computed.Value (N.value k (c .before .before .before .args .x) (c .before .before .before .args .y))) _ _ (take 10 D.ops) (c .before .match .rest))
+returns-11 c = rw (c .mul .ensures, ← c .before .before .funct10 .ensures, c .before .match .keys11)
+
+returns-12 : tie.Need-returns-12
+unfolding N.value D.ops
+returns-12 c = rw (c .mulh .ensures, ← c .before .before .funct10 .ensures, c .before .match .keys12)
+
+returns-13 : tie.Need-returns-13
+unfolding N.value D.ops
+returns-13 c = rw (c .mulhsu .ensures, ← c .before .before .funct10 .ensures, c .before .match .keys13)
+
+returns-14 : tie.Need-returns-14
+unfolding N.value D.ops
+returns-14 c = rw (c .mulhu .ensures, ← c .before .before .funct10 .ensures, c .before .match .keys14)
+
+returns-15 : tie.Need-returns-15
+unfolding N.value D.ops
+returns-15 c = rw (c .quotient .ensures, ← c .before .before .funct10 .ensures, c .before .match .keys15)
+
+returns-16 : tie.Need-returns-16
+unfolding N.value D.ops
+returns-16 c = rw (c .quotient-u .ensures, ← c .before .before .funct10 .ensures, c .before .match .keys16)
+
+returns-17 : tie.Need-returns-17
+unfolding N.value D.ops
+returns-17 c = rw (c .remainder .ensures, ← c .before .before .funct10 .ensures, c .before .match .keys17)
+
+returns-18 : tie.Need-returns-18
+unfolding N.value D.ops
+returns-18 c = rw (c .remainder-u .ensures, ← c .before .before .funct10 .ensures, c .before .match .keys18)
+
+returns-19 : tie.Need-returns-19
+unfolding N.value D.ops
+returns-19 c = rw (← c .before .funct10 .ensures) (missed _ (λ (k : Alu). Computed.Value (N.value k (c .before .before .args .x) (c .before .before .args .y))) _ _ (D.ops) (c .match .rest))
 
 pub op-spec : {M : Type 1} → statement M
 op-spec =
@@ -67,6 +98,13 @@ op-spec =
     (λ c. search needs)
     (λ c κs. search needs)
     (λ c κs. search needs)
+    (λ c κs. search needs)
+    (λ c κs. search needs)
+    (λ c κs. search needs)
+    (λ c κs. search needs)
+    (λ c κs. search needs)
+    (λ c κs. search needs)
+    (λ c κs. search needs)
     returns
     returns-2
     returns-3
@@ -77,4 +115,12 @@ op-spec =
     returns-8
     returns-9
     returns-10
-    returns-11)
+    returns-11
+    returns-12
+    returns-13
+    returns-14
+    returns-15
+    returns-16
+    returns-17
+    returns-18
+    returns-19)
