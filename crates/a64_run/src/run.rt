@@ -99,7 +99,7 @@ fn run_words(
         at.flags = flags;
         let outcome = r.outcome;
         match outcome {
-            Outcome::Next => i += 1,
+            Outcome::Next => {}
             Outcome::Fault => return ended(End::Fault, k, at),
             Outcome::Unreadable => return ended(End::Unreadable, k, at),
             Outcome::Return => return ended(End::Returned, k + 1, at),
@@ -108,6 +108,7 @@ fn run_words(
                 return ended(End::Called, k + 1, at);
             }
         }
+        i += 1;
     }
     ended(End::OffEnd, i as u64, at)
 }

@@ -25,9 +25,6 @@ loop-holds c = let a = c .before .before .args in start (a .block .now) (a .addr
 returns : tie.Need-returns Inv-loop μ-loop
 returns c = rw (c .ended .ensures .0, c .ended .ensures .1, c .ended .ensures .2) (spent (c .before .before .before .loop .inv) (c .before .before .loop-test .taken) (c .before .if1 .taken))
 
-loop-again : tie.Need-loop-again Inv-loop μ-loop
-loop-again c = onto (c .before .before .before .before .before .before .before .before .before .before .before .loop .inv) (c .before .before .before .before .before .step .result) _ _ (c .before .before .before .before .before .before .before .before .before .before .loop-test .taken) (c .before .before .before .before .before .before .before .before .before .if1 .left) (c .before .before .before .before .before .step .ensures) (c .enum-told .given .1)
-
 returns-2 : tie.Need-returns-2 Inv-loop μ-loop
 unfolding onward
 returns-2 c = rw (c .ended2 .ensures .0, c .ended2 .ensures .1, c .ended2 .ensures .2) (ended (c .before .before .before .before .before .before .before .before .before .before .before .before .loop .inv) (c .before .before .before .before .before .before .step .result) _ _ (c .before .before .before .before .before .before .before .before .before .before .before .loop-test .taken) (c .before .before .before .before .before .before .before .before .before .before .if1 .left) (c .before .before .before .before .before .before .step .ensures) _ (rw (c .before .enum-told2 .given .1)))
@@ -44,6 +41,9 @@ returns-5 : tie.Need-returns-5 Inv-loop μ-loop
 unfolding onward
 returns-5 c = rw (c .ended5 .ensures .0, c .ended5 .ensures .1, c .ended5 .ensures .2) (ended (c .before .before .before .before .before .before .before .before .before .before .before .before .before .loop .inv) (c .before .before .before .before .before .before .before .step .result) _ _ (c .before .before .before .before .before .before .before .before .before .before .before .before .loop-test .taken) (c .before .before .before .before .before .before .before .before .before .before .before .if1 .left) (c .before .before .before .before .before .before .before .step .ensures) _ (rw (c .before .before .enum-told5 .given .1, add-one, c .before .wrapping-add-u64 .ensures, ← add-assoc)))
 
+loop-again : tie.Need-loop-again Inv-loop μ-loop
+loop-again c = onto (c .before .before .before .before .before .before .before .before .before .before .before .loop .inv) (c .before .before .before .before .before .step .result) _ _ (c .before .before .before .before .before .before .before .before .before .before .loop-test .taken) (c .before .before .before .before .before .before .before .before .before .if1 .left) (c .before .before .before .before .before .step .ensures) (c .enum-told .given .1)
+
 returns-6 : tie.Need-returns-6 Inv-loop μ-loop
 returns-6 c = rw (c .ended6 .ensures .0, c .ended6 .ensures .1, c .ended6 .ensures .2) (off-end (c .before .before .loop .inv) (c .before .loop-test .left))
 
@@ -59,9 +59,6 @@ run-words-spec =
     returns
     (λ c κs. search needs)
     (λ c. search needs)
-    (λ c. search needs)
-    (λ c. search needs)
-    loop-again
     (λ c. search needs)
     (λ c κs. search needs)
     (λ c. search needs)
@@ -84,6 +81,9 @@ run-words-spec =
     (λ c κs. search needs)
     (λ c. search needs)
     returns-5
+    (λ c. search needs)
+    (λ c. search needs)
+    loop-again
     (λ c κs. search needs)
     (λ c. search needs)
     returns-6)
