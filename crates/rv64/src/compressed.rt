@@ -19,7 +19,7 @@ use crate::execute::ended;
 use crate::execute::put;
 use crate::execute::read;
 
-// e, or nothing that is covered where the encoding is reserved.
+// e, unless the encoding is reserved.
 fn unless(reserved: bool, e: Effect) -> Effect
     ensures { λ r. ⌜ r ≡ cond reserved Effect.Uncovered e ⌝ }
 {
