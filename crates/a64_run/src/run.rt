@@ -66,6 +66,12 @@ fn step(
     exec::exec(x, sp, flags, a64::decode(w), memory, base)
 }
 
+fn ended(end: End, steps: u64, state: A64State) -> Ran
+    ensures { λ r. ⌜ (r .end ≡ end) × (r .steps ≡ steps) × (r .state ≡ state) ⌝ }
+{
+    Ran { end, steps, state }
+}
+
 // Runs the block's words from the first until one ends the run.
 fn run_words(
     block: &[u8],
@@ -83,11 +89,7 @@ fn run_words(
     while i < count {
         let k = i as u64;
         if k == budget {
-            return Ran {
-                end: End::Spent,
-                steps: k,
-                state: at,
-            };
+            return ended(End::Spent, k, at);
         }
         let sp = at.sp;
         let flags = at.flags;
@@ -98,37 +100,17 @@ fn run_words(
         let outcome = r.outcome;
         match outcome {
             Outcome::Next => {}
-            Outcome::Fault => return Ran {
-                end: End::Fault,
-                steps: k,
-                state: at,
-            },
-            Outcome::Unreadable => return Ran {
-                end: End::Unreadable,
-                steps: k,
-                state: at,
-            },
-            Outcome::Return => return Ran {
-                end: End::Returned,
-                steps: k + 1,
-                state: at,
-            },
+            Outcome::Fault => return ended(End::Fault, k, at),
+            Outcome::Unreadable => return ended(End::Unreadable, k, at),
+            Outcome::Return => return ended(End::Returned, k + 1, at),
             Outcome::Call => {
                 at.x[30] = std::num::wrapping_add_u64(address, 4 * k + 4);
-                return Ran {
-                    end: End::Called,
-                    steps: k + 1,
-                    state: at,
-                };
+                return ended(End::Called, k + 1, at);
             }
         }
         i += 1;
     }
-    Ran {
-        end: End::OffEnd,
-        steps: i as u64,
-        state: at,
-    }
+    ended(End::OffEnd, i as u64, at)
 }
 
 // The refusal of a block and a memory, or 0.

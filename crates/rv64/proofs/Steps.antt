@@ -1,16 +1,19 @@
 -- What the stepper's parts do is what the decoded instruction does.
 use mathlib.Core.Path.{_≡_, refl, ap}
 use mathlib.Core.List.{List, [], _∷_}
-use Prim.Native.Nat.{ℕ, _+_, _*_, _%_}
-use lib.Dec.{ltb}
+use mathlib.Core.Bool.{Bool, true, false, cond}
+use Prim.Native.Nat.{ℕ, _+_, _*_, _%_, _<_}
+use native.Mathlib.Omega as N
+use lib.Dec.{ltb, eqb}
 use borrow.Author.Tests.{ne-eqb}
+use Rattle.isa.specs.declared.classes.Class.{Class}
 use Rattle.isa.specs.Classes.{classOf}
 use Rattle.word.specs.Word.{add}
 use Rattle.isa.specs.Formats.{inst, rd, rs1, rs2, funct3, immI, immB, highReg, lowReg}
 use Rattle.rv64.specs.declared.alu.Alu.{Alu}
 use Rattle.rv64.specs.declared.alu.Cond.{Cond}
 use Rattle.rv64.specs.declared.decode.Instr.{Instr}
-use Rattle.rv64.specs.declared.execute.Flow.{Flow}
+use Rattle.rv64.specs.declared.execute.Effect.{Effect}
 use Rattle.rv64.specs.declared.execute.Computed.{Computed}
 use Rattle.rv64.specs.Alu.{value, taken}
 use Rattle.rv64.specs.Decode as D
@@ -32,52 +35,85 @@ unfolding write
 write-zero x v = refl
 
 -- the opcodes, in the order of the stepper's `match`
-abbrev pub opcodes : D.Table ℕ
-opcodes = (0x33, 0) ∷ (0x13, 0) ∷ (0x3B, 0) ∷ (0x1B, 0) ∷ (0x37, 0) ∷ (0x17, 0) ∷ (0x6F, 0) ∷ (0x67, 0) ∷ (0x63, 0) ∷ (0x0F, 0) ∷ (0x03, 0) ∷ (0x23, 0) ∷ (0x07, 0) ∷ (0x27, 0) ∷ (0x2F, 0) ∷ (0x73, 0) ∷ []
+abbrev computing : D.Table ℕ
+computing = (0x33, 0) ∷ (0x13, 0) ∷ (0x3B, 0) ∷ (0x1B, 0) ∷ (0x37, 0) ∷ (0x17, 0) ∷ (0x6F, 0) ∷ (0x67, 0) ∷ (0x63, 0) ∷ []
 
-pub no-opcode : (P : Type 0) (w : ℕ) → Missed P opcodes (w % 128) → D.decode32 w ≡ Instr.Uncovered
-unfolding D.decode32 D.byClass classOf
-no-opcode P w h = simp (ne-eqb _ _ (h .1), ne-eqb _ _ (h .0 .1), ne-eqb _ _ (h .0 .0 .1), ne-eqb _ _ (h .0 .0 .0 .1), ne-eqb _ _ (h .0 .0 .0 .0 .1), ne-eqb _ _ (h .0 .0 .0 .0 .0 .1), ne-eqb _ _ (h .0 .0 .0 .0 .0 .0 .1), ne-eqb _ _ (h .0 .0 .0 .0 .0 .0 .0 .1), ne-eqb _ _ (h .0 .0 .0 .0 .0 .0 .0 .0 .1), ne-eqb _ _ (h .0 .0 .0 .0 .0 .0 .0 .0 .0 .1), ne-eqb _ _ (h .0 .0 .0 .0 .0 .0 .0 .0 .0 .0 .1), ne-eqb _ _ (h .0 .0 .0 .0 .0 .0 .0 .0 .0 .0 .0 .1), ne-eqb _ _ (h .0 .0 .0 .0 .0 .0 .0 .0 .0 .0 .0 .0 .1), ne-eqb _ _ (h .0 .0 .0 .0 .0 .0 .0 .0 .0 .0 .0 .0 .0 .1), ne-eqb _ _ (h .0 .0 .0 .0 .0 .0 .0 .0 .0 .0 .0 .0 .0 .0 .1), ne-eqb _ _ (h .0 .0 .0 .0 .0 .0 .0 .0 .0 .0 .0 .0 .0 .0 .0 .1))
+-- the registers that are set
+
+put-sets : (c : Computed) (rd : ℕ) → rd < 32 → S.sets (S.put c rd) < 32
+unfolding S.put
+put-sets (Computed.Value v) rd q = q
+put-sets Computed.Reserved rd q = omega N.arith
+
+pick-sets : (b : Bool) (e f : Effect) → S.sets e < 32 → S.sets f < 32 → S.sets (cond b e f) < 32
+pick-sets true e f p q = p
+pick-sets false e f p q = q
+
+table-sets : {K : Type 0} (make : K → Effect) (other : Effect) (t : D.Table K) (n : ℕ) → ((k : K) → S.sets (make k) < 32) → S.sets other < 32 → S.sets (D.lookup t n make other) < 32
+table-sets make other [] n p q = q
+table-sets make other ((k, a) ∷ t) n p q = pick-sets (eqb n k) _ _ (p a) (table-sets make other t n p q)
 
 module _ (w pc : ℕ) (x : List ℕ) where
+  -- what a table computes of a and b, put in rd, against the instructions that it makes
+  module _ (n rd a b : ℕ) (r : rd < 32) (t : D.Table Alu) (k : ℕ) (make : Alu → Instr) (p : (u : Alu) → S.applied (S.put (Computed.Value (value u a b)) rd) (add pc n) x ≡ exec (make u) n pc x) where
+    table : (other : Computed) (rest : Instr) → S.applied (S.put other rd) (add pc n) x ≡ exec rest n pc x → S.Gives (S.put (S.computed t k a b other) rd) (D.lookup t k make rest) n pc x
+    table other rest q =
+        (put-sets (S.computed t k a b other) rd r, both (λ (c : Computed). S.applied (S.put c rd) (add pc n) x) (λ (i : Instr). exec i n pc x) (λ (u : Alu). Computed.Value (value u a b)) make t k p q)
+
   -- a table of OP or OP-32
-  pub op : (t : D.Table Alu) → S.put (S.computed t (D.funct10 w) (read x (rs1 w)) (read x (rs2 w)) Computed.Reserved) (rd w) (add pc 4) x ≡ exec (D.lookup t (D.funct10 w) (D.reg w) Instr.Uncovered) 4 pc x
-  unfolding S.put exec
-  op t =
-      both (λ (c : Computed). S.put c (rd w) (add pc 4) x) (λ (i : Instr). exec i 4 pc x) (λ (k : Alu). Computed.Value (value k (read x (rs1 w)) (read x (rs2 w)))) (D.reg w) t (D.funct10 w)
-      (λ k. refl) refl
+  pub op : (t : D.Table Alu) → S.Gives (S.put (S.computed t (D.funct10 w) (read x (rs1 w)) (read x (rs2 w)) Computed.Reserved) (rd w)) (D.lookup t (D.funct10 w) (D.reg w) Instr.Uncovered) 4 pc x
+  unfolding S.put S.applied exec
+  op t = table 4 (rd w) _ _ (omega N.arith) t (D.funct10 w) (D.reg w) (λ k. refl) _ _ refl
 
-  -- OP-IMM and OP-IMM-32: a table by funct3, and one of shifts by n and the shift's count
-  module _ (t u : D.Table Alu) (n s : ℕ) (shift : Alu → Instr) (p : (k : Alu) → S.put (Computed.Value (value k (read x (rs1 w)) s)) (rd w) (add pc 4) x ≡ exec (shift k) 4 pc x) where
-    pub imm : S.put (S.computed t (funct3 w) (read x (rs1 w)) (immI w) (S.computed u n (read x (rs1 w)) s Computed.Reserved)) (rd w) (add pc 4) x ≡ exec (D.lookup t (funct3 w) (D.imm w) (D.lookup u n shift Instr.Uncovered)) 4 pc x
-    unfolding S.put exec
-    imm =
-        both (λ (c : Computed). S.put c (rd w) (add pc 4) x) (λ (i : Instr). exec i 4 pc x) (λ (k : Alu). Computed.Value (value k (read x (rs1 w)) (immI w))) (D.imm w) t (funct3 w)
-        (λ k. refl)
-        (both (λ (c : Computed). S.put c (rd w) (add pc 4) x) (λ (i : Instr). exec i 4 pc x) (λ (k : Alu). Computed.Value (value k (read x (rs1 w)) s)) shift u n p refl)
+  pub op-imm : S.Gives (S.put (S.opImm w (read x (rs1 w))) (rd w)) (D.opImm w) 4 pc x
+  unfolding S.opImm S.shiftImm D.opImm D.shiftImm S.put S.applied exec
+  op-imm =
+      table 4 (rd w) _ _ (omega N.arith) D.imms (funct3 w) (D.imm w) (λ k. refl) _ _
+      (table 4 (rd w) _ _ (omega N.arith) D.shifts (inst 31 26 w * 8 + funct3 w) (D.shift w) (λ k. refl) _ _ refl .1)
 
-  pub op-imm : S.put (S.opImm w (read x (rs1 w))) (rd w) (add pc 4) x ≡ exec (D.opImm w) 4 pc x
-  unfolding S.opImm S.shiftImm D.opImm D.shiftImm S.put exec
-  op-imm = imm D.imms D.shifts (inst 31 26 w * 8 + funct3 w) (inst 25 20 w) (D.shift w) (λ k. refl)
+  pub op-imm-32 : S.Gives (S.put (S.opImm32 w (read x (rs1 w))) (rd w)) (D.opImm32 w) 4 pc x
+  unfolding S.opImm32 S.shiftImm32 D.opImm32 D.shiftImm32 S.put S.applied exec
+  op-imm-32 =
+      table 4 (rd w) _ _ (omega N.arith) D.imms32 (funct3 w) (D.imm w) (λ k. refl) _ _
+      (table 4 (rd w) _ _ (omega N.arith) D.shifts32 (D.funct10 w) (D.shiftw w) (λ k. refl) _ _ refl .1)
 
-  pub op-imm-32 : S.put (S.opImm32 w (read x (rs1 w))) (rd w) (add pc 4) x ≡ exec (D.opImm32 w) 4 pc x
-  unfolding S.opImm32 S.shiftImm32 D.opImm32 D.shiftImm32 S.put exec
-  op-imm-32 = imm D.imms32 D.shifts32 (D.funct10 w) (inst 24 20 w) (D.shiftw w) (λ k. refl)
+  pub branch : S.Gives (S.branched (funct3 w) (read x (rs1 w)) (read x (rs2 w)) (add pc (immB w)) (add pc 4)) (D.branch w) 4 pc x
+  unfolding S.branched D.branch S.applied exec
+  branch = (
+    table-sets _ _ D.branches (funct3 w) (λ k. omega N.arith) (omega N.arith),
+    both (λ (e : Effect). S.applied e (add pc 4) x) (λ (i : Instr). exec i 4 pc x) (λ (k : Cond). S.ended (taken k (read x (rs1 w)) (read x (rs2 w))) (add pc (immB w)) (add pc 4)) (D.on w) D.branches (funct3 w)
+        (λ k. refl) refl,
+  )
 
-  pub branch : record { x = x; flow = S.branched (funct3 w) (read x (rs1 w)) (read x (rs2 w)) (add pc (immB w)) (add pc 4) } ≡ exec (D.branch w) 4 pc x
-  unfolding S.branched D.branch exec
-  branch =
-      both (λ (flow : Flow). record { x = x; flow = flow }) (λ (i : Instr). exec i 4 pc x) (λ (k : Cond). S.ended (taken k (read x (rs1 w)) (read x (rs2 w))) (add pc (immB w)) (add pc 4)) (D.on w) D.branches (funct3 w)
-      (λ k. refl) refl
+  pub below : (n : ℕ) (i : Instr) (e : Effect) → S.sets e < 32 → S.applied e (add pc 4) x ≡ exec i 4 pc x → S.Gives (S.below w n e) (D.below w n i) 4 pc x
+  unfolding S.below D.below S.applied exec
+  below n i e p q =
+      (pick-sets (ltb (funct3 w) n) _ _ p (omega N.arith), either (λ (f : Effect). S.applied f (add pc 4) x) (λ (j : Instr). exec j 4 pc x) (ltb (funct3 w) n) q refl)
 
-  pub below : (n : ℕ) (i : Instr) (flow : Flow) → record { x = x; flow = flow } ≡ exec i 4 pc x → record { x = x; flow = S.below w n flow } ≡ exec (D.below w n i) 4 pc x
-  unfolding S.below D.below exec
-  below n i flow q =
-      either (λ (f : Flow). record { x = x; flow = f }) (λ (j : Instr). exec j 4 pc x) (ltb (funct3 w) n) q refl
+  abbrev done-by : Effect → Step
+  done-by e = S.applied e (add pc 4) x
+
+  abbrev done : Class → Step
+  done k = exec (D.byClass k w) 4 pc x
+
+  -- where the opcode is none that the stepper's `match` has before it
+  pub other : (P : Type 0) → Missed P computing (w % 128) → S.Gives (S.other w) (D.decode32 w) 4 pc x
+  unfolding S.other S.others S.applied exec D.decode32 D.byClass classOf
+  other P h =
+      let load = below 7 Instr.Helper Effect.Helper (omega N.arith) refl in
+      let misc = below 2 Instr.Nop Effect.Next (omega N.arith) refl in
+      let store = below 4 Instr.Helper Effect.Helper (omega N.arith) refl in (
+        pick-sets (eqb (w % 128) 0x03) _ _ (load .0) (pick-sets (eqb (w % 128) 0x07) _ _ (omega N.arith) (pick-sets (eqb (w % 128) 0x0F) _ _ (misc .0) (pick-sets (eqb (w % 128) 0x23) _ _ (store .0) (pick-sets (eqb (w % 128) 0x27) _ _ (omega N.arith) (pick-sets (eqb (w % 128) 0x2F) _ _ (omega N.arith) (pick-sets (eqb (w % 128) 0x73) _ _ (omega N.arith) (omega N.arith))))))),
+        simp (ne-eqb _ _ (h .1), ne-eqb _ _ (h .0 .1), ne-eqb _ _ (h .0 .0 .1), ne-eqb _ _ (h .0 .0 .0 .1), ne-eqb _ _ (h .0 .0 .0 .0 .1), ne-eqb _ _ (h .0 .0 .0 .0 .0 .1), ne-eqb _ _ (h .0 .0 .0 .0 .0 .0 .1), ne-eqb _ _ (h .0 .0 .0 .0 .0 .0 .0 .1), ne-eqb _ _ (h .0 .0 .0 .0 .0 .0 .0 .0 .1))
+            (either done-by done (eqb (w % 128) 0x03) (load .1) (either done-by done (eqb (w % 128) 0x07) refl (either done-by done (eqb (w % 128) 0x0F) (misc .1) (either done-by done (eqb (w % 128) 0x23) (store .1) (either done-by done (eqb (w % 128) 0x27) refl (either done-by done (eqb (w % 128) 0x2F) refl (either done-by done (eqb (w % 128) 0x73) refl refl))))))),
+      )
 
   -- C.SUB and the others of its group
-  pub arith : S.put (S.computed C.ariths (inst 12 12 w * 4 + inst 6 5 w) (read x (highReg w)) (read x (lowReg w)) Computed.Reserved) (highReg w) (add pc 2) x ≡ exec (C.arith w) 2 pc x
-  unfolding S.put exec C.arith
-  arith =
-      both (λ (c : Computed). S.put c (highReg w) (add pc 2) x) (λ (i : Instr). exec i 2 pc x) (λ (k : Alu). Computed.Value (value k (read x (highReg w)) (read x (lowReg w)))) (C.reg w) C.ariths (inst 12 12 w * 4 + inst 6 5 w)
-      (λ k. refl) refl
+  pub arith : S.Gives (S.put (S.computed C.ariths (inst 12 12 w * 4 + inst 6 5 w) (read x (highReg w)) (read x (lowReg w)) Computed.Reserved) (highReg w)) (C.arith w) 2 pc x
+  unfolding S.put S.applied exec C.arith
+  arith = table 2 (highReg w) _ _ (omega N.arith) C.ariths (inst 12 12 w * 4 + inst 6 5 w) (C.reg w) (λ k. refl) _ _ refl
+
+  pub unless : (n : ℕ) (i : Instr) (e : Effect) → S.Gives e i 2 pc x → S.Gives (cond (eqb n 0) Effect.Uncovered e) (C.unless0 n i) 2 pc x
+  unfolding C.unless0 S.applied exec
+  unless n i e p =
+      (pick-sets (eqb n 0) _ _ (omega N.arith) (p .0), either (λ (f : Effect). S.applied f (add pc 2) x) (λ (j : Instr). exec j 2 pc x) (eqb n 0) refl (p .1))

@@ -1,14 +1,17 @@
 -- The stepper's parts, each by the definitions of what an instruction does. Definitions only.
 use mathlib.Core.Bool.{Bool, cond, not}
 use mathlib.Core.Path.{_≡_}
-use mathlib.Core.List.{List}
-use Prim.Native.Nat.{ℕ, _+_, _*_, _%_}
+use mathlib.Core.List.{List, [], _∷_}
+use Prim.Native.Nat.{ℕ, _+_, _*_, _%_, _<_}
 use lib.Dec.{ltb, eqb}
 use lib.ListN.{length}
-use Rattle.isa.specs.Formats.{inst, funct3, immI}
+use Rattle.word.specs.Word.{add}
+use Rattle.isa.specs.Formats.{inst, opcode, funct3, immI}
 use Rattle.rv64.specs.declared.alu.Alu.{Alu}
 use Rattle.rv64.specs.declared.alu.Cond.{Cond}
+use Rattle.rv64.specs.declared.decode.Instr.{Instr}
 use Rattle.rv64.specs.declared.execute.Flow.{Flow}
+use Rattle.rv64.specs.declared.execute.Effect.{Effect}
 use Rattle.rv64.specs.declared.execute.Computed.{Computed}
 use Rattle.rv64.specs.declared.run.Encoding.{Encoding}
 use Rattle.rv64.specs.declared.run.Fetched.{Fetched}
@@ -18,12 +21,35 @@ use Rattle.rv64.specs.declared.run.Refusal.{Refusal}
 use Rattle.rv64.specs.declared.run.Answer.{Answer}
 use Rattle.rv64.specs.Alu.{value, taken}
 use Rattle.rv64.specs.Decode.{Table, lookup, imms, shifts, imms32, shifts32, branches, funct10}
+use Rattle.rv64.specs.Execute as X
 use Rattle.rv64.specs.Execute.{Step, exec, next, write}
 use Rattle.rv64.specs.Run.{halfword, word, hart}
 
 -- the answer flow and the registers x are those of a step
 abbrev pub Does : Step → Flow → List ℕ → Type 0
 Does s flow x = (flow ≡ s .flow) × (x ≡ s .x)
+
+-- an effect on the registers x; pc: the address behind the instruction
+unfoldable pub applied : Effect → ℕ → List ℕ → Step
+applied (Effect.Set rd v) pc x = next (write x rd v) pc
+applied (Effect.Link rd to) pc x = X.ended (write x rd pc) to
+applied (Effect.Ended to) pc x = X.ended x to
+applied Effect.Next pc x = next x pc
+applied Effect.Helper pc x = record { x = x; flow = Flow.Helper }
+applied Effect.Uncovered pc x = record { x = x; flow = Flow.Uncovered }
+
+-- the register that it sets
+abbrev pub sets : Effect → ℕ
+sets (Effect.Set rd v) = rd
+sets (Effect.Link rd to) = rd
+sets (Effect.Ended to) = 0
+sets Effect.Next = 0
+sets Effect.Helper = 0
+sets Effect.Uncovered = 0
+
+-- the effect e is that of an instruction of n bytes at pc, on the registers x
+abbrev pub Gives : Effect → Instr → ℕ → ℕ → List ℕ → Type 0
+Gives e i n pc x = (sets e < 32) × (applied e (add pc n) x ≡ exec i n pc x)
 
 -- what a table's entry at n computes of x and y
 abbrev pub computed : Table Alu → ℕ → ℕ → ℕ → Computed → Computed
@@ -42,18 +68,33 @@ unfoldable pub opImm32 : ℕ → ℕ → Computed
 opImm32 w x = computed imms32 (funct3 w) x (immI w) (shiftImm32 w x)
 
 -- a computed value in rd
-unfoldable pub put : Computed → ℕ → ℕ → List ℕ → Step
-put (Computed.Value v) rd pc x = next (write x rd v) pc
-put Computed.Reserved rd pc x = record { x = x; flow = Flow.Uncovered }
+unfoldable pub put : Computed → ℕ → Effect
+put (Computed.Value v) rd = Effect.Set rd v
+put Computed.Reserved rd = Effect.Uncovered
 
-abbrev pub ended : Bool → ℕ → ℕ → Flow
-ended t to pc = Flow.Ended (cond t to pc)
+abbrev pub ended : Bool → ℕ → ℕ → Effect
+ended t to pc = Effect.Ended (cond t to pc)
 
-unfoldable pub branched : ℕ → ℕ → ℕ → ℕ → ℕ → Flow
-branched n x y to pc = lookup branches n (λ (k : Cond). ended (taken k x y) to pc) Flow.Uncovered
+unfoldable pub branched : ℕ → ℕ → ℕ → ℕ → ℕ → Effect
+branched n x y to pc = lookup branches n (λ (k : Cond). ended (taken k x y) to pc) Effect.Uncovered
 
-unfoldable pub below : ℕ → ℕ → Flow → Flow
-below w n flow = cond (ltb (funct3 w) n) flow Flow.Uncovered
+unfoldable pub below : ℕ → ℕ → Effect → Effect
+below w n e = cond (ltb (funct3 w) n) e Effect.Uncovered
+
+-- by opcode: LOAD, LOAD-FP, MISC-MEM, STORE, STORE-FP, AMO, SYSTEM
+unfoldable pub others : ℕ → Table Effect
+others w =
+    (0x03, below w 7 Effect.Helper)
+    ∷ (0x07, Effect.Helper)
+    ∷ (0x0F, below w 2 Effect.Next)
+    ∷ (0x23, below w 4 Effect.Helper)
+    ∷ (0x27, Effect.Helper)
+    ∷ (0x2F, Effect.Helper)
+    ∷ (0x73, Effect.Uncovered)
+    ∷ []
+
+unfoldable pub other : ℕ → Effect
+other w = lookup (others w) (opcode w) (λ (e : Effect). e) Effect.Uncovered
 
 -- ---- the run
 

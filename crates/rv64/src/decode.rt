@@ -2,6 +2,7 @@
 ghost use mathlib.Core.Path.{_≡_};
 ghost use Prim.Native.Nat.{_<_};
 ghost use Rattle.isa.specs.Formats as F;
+ghost use Rattle.word.specs.Word as W;
 ghost use Rattle.rv64.specs.Decode as D;
 ghost use Rattle.rv64.specs.Execute as X;
 ghost use Rattle.rv64.specs.Step as S;
@@ -14,11 +15,12 @@ use crate::alu::remainder;
 use crate::alu::remainder_u;
 use crate::alu::sextw;
 use crate::execute::Computed;
+use crate::execute::Effect;
 use crate::execute::Flow;
+use crate::execute::apply;
 use crate::execute::ended;
 use crate::execute::put;
 use crate::execute::read;
-use crate::execute::set;
 
 // Opcodes.
 const OP: u32 = 0b0110011;
@@ -89,10 +91,10 @@ fn funct10(w: u32) -> u32
 }
 
 // OP, by funct7 and funct3.
-fn op(n: u32, x: u64, y: u64) -> Computed
-    ensures { λ r. ⌜ r ≡ S.computed D.ops n x y Computed.Reserved ⌝ }
+fn op(w: u32, x: u64, y: u64) -> Computed
+    ensures { λ r. ⌜ r ≡ S.computed D.ops (D.funct10 w) x y Computed.Reserved ⌝ }
 {
-    match n {
+    match funct10(w) {
         0b0000000_000 => Computed::Value(std::num::wrapping_add_u64(x, y)),
         0b0100000_000 => Computed::Value(word::sub(x, y)),
         0b0000000_001 => Computed::Value(x << (y % 64)),
@@ -116,14 +118,14 @@ fn op(n: u32, x: u64, y: u64) -> Computed
 }
 
 // OP-32, by funct7 and funct3; its divisions take these words.
-fn op_32(n: u32, x: u64, y: u64) -> Computed
-    ensures { λ r. ⌜ r ≡ S.computed D.ops32 n x y Computed.Reserved ⌝ }
+fn op_32(w: u32, x: u64, y: u64) -> Computed
+    ensures { λ r. ⌜ r ≡ S.computed D.ops32 (D.funct10 w) x y Computed.Reserved ⌝ }
 {
     let xw = sextw(x);
     let yw = sextw(y);
     let xu = x % 0x1_0000_0000;
     let yu = y % 0x1_0000_0000;
-    match n {
+    match funct10(w) {
         0b0000000_000 => Computed::Value(sextw(std::num::wrapping_add_u64(x, y))),
         0b0100000_000 => Computed::Value(sextw(word::sub(x, y))),
         0b0000000_001 => Computed::Value(sextw(x << (y % 32))),
@@ -189,7 +191,7 @@ fn op_imm_32(w: u32, x: u64) -> Computed
 }
 
 // A branch to one of two places.
-fn branch(n: u32, x: u64, y: u64, to: u64, next: u64) -> Flow
+fn branch(n: u32, x: u64, y: u64, to: u64, next: u64) -> Effect
     ensures { λ r. ⌜ r ≡ S.branched n x y to next ⌝ }
 {
     match n {
@@ -199,18 +201,62 @@ fn branch(n: u32, x: u64, y: u64, to: u64, next: u64) -> Flow
         0b101 => ended(!word::slt(x, y), to, next),
         0b110 => ended(x < y, to, next),
         0b111 => ended(!(x < y), to, next),
-        _ => Flow::Uncovered,
+        _ => Effect::Uncovered,
     }
 }
 
-// flow where funct3 is below n.
-fn below(w: u32, n: u32, flow: Flow) -> Flow
-    ensures { λ r. ⌜ r ≡ S.below w n flow ⌝ }
+// e where funct3 is below n.
+fn below(w: u32, n: u32, e: Effect) -> Effect
+    ensures { λ r. ⌜ r ≡ S.below w n e ⌝ }
 {
     if w / 4096 % 8 < n {
-        flow
+        e
     } else {
-        Flow::Uncovered
+        Effect::Uncovered
+    }
+}
+
+// The other opcodes, which set no register.
+fn other(w: u32) -> Effect
+    ensures { λ r. ⌜ r ≡ S.other w ⌝ }
+{
+    match w % 128 {
+        LOAD => below(w, 7, Effect::Helper),
+        LOAD_FP => Effect::Helper,
+        MISC_MEM => below(w, 2, Effect::Next),
+        STORE => below(w, 4, Effect::Helper),
+        STORE_FP => Effect::Helper,
+        AMO => Effect::Helper,
+        SYSTEM => Effect::Uncovered,
+        _ => Effect::Uncovered,
+    }
+}
+
+// What the instruction of the word w at pc does; next is the address behind it.
+fn effect32(x: &[u64; 32], w: u32, pc: u64, next: u64) -> Effect
+    requires { ⌜ next ≡ W.add pc 4 ⌝ }
+    ensures { λ r. ⌜ S.Gives r (D.decode32 w) 4 pc (now (x .entry)) ⌝ }
+{
+    let rd = w / 128 % 32;
+    let a = read(x, w / 0x8000 % 32);
+    let b = read(x, w / 0x10_0000 % 32);
+    match w % 128 {
+        OP => put(rd, op(w, a, b)),
+        OP_IMM => put(rd, op_imm(w, a)),
+        OP_32 => put(rd, op_32(w, a, b)),
+        OP_IMM_32 => put(rd, op_imm_32(w, a)),
+        LUI => Effect::Set(rd, isa::decode::imm_u(w)),
+        AUIPC => Effect::Set(rd, std::num::wrapping_add_u64(pc, isa::decode::imm_u(w))),
+        JAL => Effect::Link(rd, std::num::wrapping_add_u64(pc, isa::decode::imm_j(w))),
+        JALR => Effect::Link(
+            rd,
+            std::num::wrapping_add_u64(a, isa::decode::imm_i(w)) / 2 * 2,
+        ),
+        BRANCH => {
+            let to = std::num::wrapping_add_u64(pc, isa::decode::imm_b(w));
+            branch(w / 4096 % 8, a, b, to, next)
+        }
+        _ => other(w),
     }
 }
 
@@ -218,39 +264,7 @@ fn below(w: u32, n: u32, flow: Flow) -> Flow
 pub fn step32(x: &mut [u64; 32], w: u32, pc: u64) -> Flow
     ensures { λ r. ⌜ S.Does (X.exec (D.decode32 w) 4 pc (now (x .entry))) r (now (x .exit)) ⌝ }
 {
-    let rd = w / 128 % 32;
-    let a = read(x, w / 0x8000 % 32);
-    let b = read(x, w / 0x10_0000 % 32);
     let next = std::num::wrapping_add_u64(pc, 4);
-    match w % 128 {
-        OP => put(x, rd, op(funct10(w), a, b), next),
-        OP_IMM => put(x, rd, op_imm(w, a), next),
-        OP_32 => put(x, rd, op_32(funct10(w), a, b), next),
-        OP_IMM_32 => put(x, rd, op_imm_32(w, a), next),
-        LUI => set(x, rd, isa::decode::imm_u(w), Flow::Next(next)),
-        AUIPC => {
-            let v = std::num::wrapping_add_u64(pc, isa::decode::imm_u(w));
-            set(x, rd, v, Flow::Next(next))
-        }
-        JAL => {
-            let to = std::num::wrapping_add_u64(pc, isa::decode::imm_j(w));
-            set(x, rd, next, Flow::Ended(to))
-        }
-        JALR => {
-            let to = std::num::wrapping_add_u64(a, isa::decode::imm_i(w));
-            set(x, rd, next, Flow::Ended(to / 2 * 2))
-        }
-        BRANCH => {
-            let to = std::num::wrapping_add_u64(pc, isa::decode::imm_b(w));
-            branch(w / 4096 % 8, a, b, to, next)
-        }
-        MISC_MEM => below(w, 2, Flow::Next(next)),
-        LOAD => below(w, 7, Flow::Helper),
-        STORE => below(w, 4, Flow::Helper),
-        LOAD_FP => Flow::Helper,
-        STORE_FP => Flow::Helper,
-        AMO => Flow::Helper,
-        SYSTEM => Flow::Uncovered,
-        _ => Flow::Uncovered,
-    }
+    let e = effect32(x, w, pc, next);
+    apply(x, e, next)
 }

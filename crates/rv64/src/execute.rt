@@ -19,6 +19,20 @@ pub enum Computed {
     Reserved,
 }
 
+// What an instruction does, by the registers before it.
+pub enum Effect {
+    // the register of this number set to this value, and on behind the instruction
+    Set(u32, u64),
+    // the register of this number set to the address behind the instruction, and the block's end; on at this PC
+    Link(u32, u64),
+    // the block's end; on at this PC
+    Ended(u64),
+    // on behind the instruction
+    Next,
+    Helper,
+    Uncovered,
+}
+
 pub fn read(x: &[u64; 32], n: u32) -> u64
     requires { ⌜ n < 32 ⌝ }
     ensures { λ r. ⌜ r ≡ X.read (now (x .entry)) n ⌝ }
@@ -30,37 +44,56 @@ pub fn read(x: &[u64; 32], n: u32) -> u64
     x[i]
 }
 
-// Register rd set to v; how the block goes on is handed through.
-pub fn set(x: &mut [u64; 32], rd: u32, v: u64, flow: Flow) -> Flow
+// Register rd set to v.
+pub fn set(x: &mut [u64; 32], rd: u32, v: u64)
     requires { ⌜ rd < 32 ⌝ }
-    ensures { λ r. ⌜ (r ≡ flow) × (now (x .exit) ≡ X.write (now (x .entry)) rd v) ⌝ }
+    ensures { λ r. ⌜ now (x .exit) ≡ X.write (now (x .entry)) rd v ⌝ }
 {
     if rd == 0 {
-        return flow;
+        return;
     }
     let i = rd as usize;
     x[i] = v;
-    flow
 }
 
-// A computed value put in register rd, with the block going on at next.
-pub fn put(x: &mut [u64; 32], rd: u32, c: Computed, next: u64) -> Flow
-    requires { ⌜ rd < 32 ⌝ }
-    ensures { λ r. ⌜ S.Does (S.put c rd next (now (x .entry))) r (now (x .exit)) ⌝ }
+// What is computed put in register rd.
+pub fn put(rd: u32, c: Computed) -> Effect
+    ensures { λ r. ⌜ r ≡ S.put c rd ⌝ }
 {
     match c {
-        Computed::Value(v) => set(x, rd, v, Flow::Next(next)),
-        Computed::Reserved => Flow::Uncovered,
+        Computed::Value(v) => Effect::Set(rd, v),
+        Computed::Reserved => Effect::Uncovered,
     }
 }
 
 // The block's end at one of two places.
-pub fn ended(taken: bool, to: u64, next: u64) -> Flow
+pub fn ended(taken: bool, to: u64, next: u64) -> Effect
     ensures { λ r. ⌜ r ≡ S.ended taken to next ⌝ }
 {
     if taken {
-        Flow::Ended(to)
+        Effect::Ended(to)
     } else {
-        Flow::Ended(next)
+        Effect::Ended(next)
+    }
+}
+
+// The effect of an instruction on the registers; next is the address behind it.
+pub fn apply(x: &mut [u64; 32], e: Effect, next: u64) -> Flow
+    requires { ⌜ S.sets e < 32 ⌝ }
+    ensures { λ r. ⌜ S.Does (S.applied e next (now (x .entry))) r (now (x .exit)) ⌝ }
+{
+    match e {
+        Effect::Set(rd, v) => {
+            set(x, rd, v);
+            Flow::Next(next)
+        }
+        Effect::Link(rd, to) => {
+            set(x, rd, next);
+            Flow::Ended(to)
+        }
+        Effect::Ended(to) => Flow::Ended(to),
+        Effect::Next => Flow::Next(next),
+        Effect::Helper => Flow::Helper,
+        Effect::Uncovered => Flow::Uncovered,
     }
 }

@@ -1,26 +1,11 @@
-use Rattle.rv64.specs.declared.alu.Alu.{Alu}
-use Rattle.rv64.specs.declared.execute.Computed.{Computed}
-use Rattle.rv64.specs.Alu as N
-use Rattle.rv64.specs.Compressed as C
 use Rattle.rv64.proofs.Tables.{missed}
+use Rattle.rv64.specs.Compressed as C
+use Rattle.rv64.specs.Alu as N
+use Rattle.rv64.specs.declared.execute.Computed.{Computed}
+use Rattle.rv64.specs.declared.alu.Alu.{Alu}
 use borrow.Author.Needs.{needs}
 use Rattle.rv64.proofs.compressed.arith.Statement.{statement}
 use Rattle.rv64.proofs.compressed.arith.Tie as tie
-
-sub-requires : tie.Need-sub-requires
-sub-requires c κs = search needs
-
-sub-requires-2 : tie.Need-sub-requires-2
-sub-requires-2 c κs = search needs
-
-sextw-requires : tie.Need-sextw-requires
-sextw-requires c κs = search needs
-
-wrapping-add-u64-requires : tie.Need-wrapping-add-u64-requires
-wrapping-add-u64-requires c κs = search needs
-
-sextw-requires-2 : tie.Need-sextw-requires-2
-sextw-requires-2 c κs = search needs
 
 returns : tie.Need-returns
 unfolding N.value C.ariths
@@ -48,17 +33,19 @@ returns-6 c = rw (c .sextw2 .ensures, c .before .wrapping-add-u64 .ensures, c .b
 
 returns-7 : tie.Need-returns-7
 unfolding N.value C.ariths
-returns-7 c = missed _ (λ (k : Alu). Computed.Value (N.value k (c .before .args .x) (c .before .args .y))) _ _ C.ariths (c .match .rest)
+returns-7 c = missed _ (λ (k : Alu). Computed.Value (N.value k (c .before .args .x) (c .before .args .y))) _ _ (C.ariths) (c .match .rest)
 
 pub arith-spec : {M : Type 1} → statement M
 arith-spec =
     tie.close
     (tie.spec
-    sub-requires
-    sub-requires-2
-    sextw-requires
-    wrapping-add-u64-requires
-    sextw-requires-2
+    (λ c. search needs)
+    (λ c. search needs)
+    (λ c κs. search needs)
+    (λ c κs. search needs)
+    (λ c κs. search needs)
+    (λ c κs. search needs)
+    (λ c κs. search needs)
     returns
     returns-2
     returns-3

@@ -1,66 +1,35 @@
-use Rattle.rv64.proofs.Steps as T
+use native.Mathlib.Omega.{arith}
 use mathlib.Core.Path.{refl}
-use borrow.Author.Tests.{eq-eqb, ne-eqb}
-use Rattle.rv64.specs.Alu as N
-use Rattle.rv64.specs.Compressed as C
+use Rattle.rv64.proofs.Steps as T
+use Rattle.rv64.specs.Step as S
 use Rattle.rv64.specs.Execute as X
+use Rattle.rv64.specs.Compressed as C
+use Rattle.rv64.specs.Alu as N
+use borrow.Author.Tests.{eq-eqb, ne-eqb}
 use borrow.Author.Needs.{needs}
 use Rattle.rv64.proofs.compressed.jr_mv.Statement.{statement}
 use Rattle.rv64.proofs.compressed.jr_mv.Tie as tie
 
-cast-d : tie.Need-cast-d
-cast-d c = search needs
-
-cast-s : tie.Need-cast-s
-cast-s c = search needs
-
 returns : tie.Need-returns
-unfolding C.jrMv C.unless0 X.exec N.value
-returns c = rw (eq-eqb _ _ (c .if2 .taken), eq-eqb _ _ (c .before .if1 .taken)) (refl, refl)
-
-read-requires : tie.Need-read-requires
-read-requires c κs = search needs
-
-wrapping-add-u64-requires : tie.Need-wrapping-add-u64-requires
-wrapping-add-u64-requires c κs = search needs
-
-mul-t16 : tie.Need-mul-t16
-mul-t16 c = search needs
+unfolding C.jrMv S.applied X.exec N.value
+returns c = rw (c .unless .ensures, c .before .wrapping-add-u64 .ensures, c .before .before .read .ensures, eq-eqb _ _ (c .before .before .before .if1 .taken)) (T.unless (c .before .before .before .before .args .w) (c .before .before .before .before .args .pc) (c .before .before .before .before .args .x .now) _ _ _ (omega arith, rw T.write-zero))
 
 returns-2 : tie.Need-returns-2
-unfolding C.jrMv C.unless0 X.exec N.value
-returns-2 c = rw (c .wrapping-add-u64 .ensures, c .before .read .ensures, ne-eqb _ _ (c .before .before .before .if2 .left), eq-eqb _ _ (c .before .before .before .before .if1 .taken), T.write-zero) (refl, refl)
-
-returns-3 : tie.Need-returns-3
-unfolding C.jrMv C.unless0 X.exec N.value
-returns-3 c = rw (eq-eqb _ _ (c .if3 .taken), ne-eqb _ _ (c .before .if1 .left)) (refl, refl)
-
-read-requires-2 : tie.Need-read-requires-2
-read-requires-2 c κs = search needs
-
-wrapping-add-u64-requires-2 : tie.Need-wrapping-add-u64-requires-2
-wrapping-add-u64-requires-2 c κs = search needs
-
-set-requires : tie.Need-set-requires
-set-requires c κs = search needs
-
-returns-4 : tie.Need-returns-4
-unfolding C.jrMv C.unless0 X.exec N.value
-returns-4 c = rw (c .set .ensures .0, c .set .ensures .1, c .before .before .wrapping-add-u642 .ensures, c .before .before .before .read2 .ensures, ne-eqb _ _ (c .before .before .before .before .before .if3 .left), ne-eqb _ _ (c .before .before .before .before .before .before .if1 .left), c .before .before .before .before .before .before .before .pre, T.read-zero) (refl, refl)
+unfolding C.jrMv S.applied X.exec N.value
+returns-2 c = rw (c .unless2 .ensures, c .before .wrapping-add-u642 .ensures, c .before .before .read2 .ensures, ne-eqb _ _ (c .before .before .before .if1 .left)) (T.unless (c .before .before .before .before .args .w) (c .before .before .before .before .args .pc) (c .before .before .before .before .args .x .now) _ _ _ (omega arith, rw T.read-zero))
 
 pub jr-mv-spec : {M : Type 1} → statement M
 jr-mv-spec =
     tie.close
     (tie.spec
-    cast-d
-    cast-s
+    (λ c. search needs)
+    (λ c. search needs)
+    (λ c κs. search needs)
+    (λ c κs. search needs)
+    (λ c. search needs)
+    (λ c κs. search needs)
     returns
-    read-requires
-    wrapping-add-u64-requires
-    mul-t16
-    returns-2
-    returns-3
-    read-requires-2
-    wrapping-add-u64-requires-2
-    set-requires
-    returns-4)
+    (λ c κs. search needs)
+    (λ c κs. search needs)
+    (λ c κs. search needs)
+    returns-2)

@@ -1,35 +1,11 @@
-use Rattle.rv64.specs.declared.alu.Cond.{Cond}
-use Rattle.rv64.specs.Alu as N
-use Rattle.rv64.specs.Decode as D
-use Rattle.rv64.specs.Step as S
 use Rattle.rv64.proofs.Tables.{missed}
+use Rattle.rv64.specs.Step as S
+use Rattle.rv64.specs.Decode as D
+use Rattle.rv64.specs.Alu as N
+use Rattle.rv64.specs.declared.alu.Cond.{Cond}
 use borrow.Author.Needs.{needs}
 use Rattle.rv64.proofs.decode.branch.Statement.{statement}
 use Rattle.rv64.proofs.decode.branch.Tie as tie
-
-ended-requires : tie.Need-ended-requires
-ended-requires c κs = search needs
-
-ended-requires-2 : tie.Need-ended-requires-2
-ended-requires-2 c κs = search needs
-
-slt-requires : tie.Need-slt-requires
-slt-requires c κs = search needs
-
-ended-requires-3 : tie.Need-ended-requires-3
-ended-requires-3 c κs = search needs
-
-slt-requires-2 : tie.Need-slt-requires-2
-slt-requires-2 c κs = search needs
-
-ended-requires-4 : tie.Need-ended-requires-4
-ended-requires-4 c κs = search needs
-
-ended-requires-5 : tie.Need-ended-requires-5
-ended-requires-5 c κs = search needs
-
-ended-requires-6 : tie.Need-ended-requires-6
-ended-requires-6 c κs = search needs
 
 returns : tie.Need-returns
 unfolding S.branched N.taken D.branches
@@ -63,14 +39,14 @@ pub branch-spec : {M : Type 1} → statement M
 branch-spec =
     tie.close
     (tie.spec
-    ended-requires
-    ended-requires-2
-    slt-requires
-    ended-requires-3
-    slt-requires-2
-    ended-requires-4
-    ended-requires-5
-    ended-requires-6
+    (λ c κs. search needs)
+    (λ c κs. search needs)
+    (λ c κs. search needs)
+    (λ c κs. search needs)
+    (λ c κs. search needs)
+    (λ c κs. search needs)
+    (λ c κs. search needs)
+    (λ c κs. search needs)
     returns
     returns-2
     returns-3

@@ -9,24 +9,6 @@ use borrow.Author.Needs.{needs}
 use Rattle.rv64.proofs.decode.op_imm.Statement.{statement}
 use Rattle.rv64.proofs.decode.op_imm.Tie as tie
 
-imm-i-requires : tie.Need-imm-i-requires
-imm-i-requires c κs = search needs
-
-wrapping-add-u64-requires : tie.Need-wrapping-add-u64-requires
-wrapping-add-u64-requires c κs = search needs
-
-slt-requires : tie.Need-slt-requires
-slt-requires c κs = search needs
-
-bit-requires : tie.Need-bit-requires
-bit-requires c κs = search needs
-
-bit-requires-2 : tie.Need-bit-requires-2
-bit-requires-2 c κs = search needs
-
-shift-imm-requires : tie.Need-shift-imm-requires
-shift-imm-requires c κs = search needs
-
 returns : tie.Need-returns
 unfolding S.opImm N.value D.imms
 returns c = rw (c .wrapping-add-u64 .ensures, c .before .match .keys1, c .before .before .imm-i .ensures)
@@ -59,12 +41,12 @@ pub op-imm-spec : {M : Type 1} → statement M
 op-imm-spec =
     tie.close
     (tie.spec
-    imm-i-requires
-    wrapping-add-u64-requires
-    slt-requires
-    bit-requires
-    bit-requires-2
-    shift-imm-requires
+    (λ c κs. search needs)
+    (λ c κs. search needs)
+    (λ c κs. search needs)
+    (λ c κs. search needs)
+    (λ c κs. search needs)
+    (λ c κs. search needs)
     returns
     returns-2
     returns-3

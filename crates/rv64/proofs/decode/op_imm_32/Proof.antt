@@ -9,18 +9,6 @@ use borrow.Author.Needs.{needs}
 use Rattle.rv64.proofs.decode.op_imm_32.Statement.{statement}
 use Rattle.rv64.proofs.decode.op_imm_32.Tie as tie
 
-imm-i-requires : tie.Need-imm-i-requires
-imm-i-requires c κs = search needs
-
-wrapping-add-u64-requires : tie.Need-wrapping-add-u64-requires
-wrapping-add-u64-requires c κs = search needs
-
-sextw-requires : tie.Need-sextw-requires
-sextw-requires c κs = search needs
-
-shift-imm-32-requires : tie.Need-shift-imm-32-requires
-shift-imm-32-requires c κs = search needs
-
 returns : tie.Need-returns
 unfolding S.opImm32 N.value D.imms32
 returns c = rw (c .sextw .ensures, c .before .wrapping-add-u64 .ensures, c .before .before .imm-i .ensures, c .before .before .before .match .keys1)
@@ -33,9 +21,9 @@ pub op-imm-32-spec : {M : Type 1} → statement M
 op-imm-32-spec =
     tie.close
     (tie.spec
-    imm-i-requires
-    wrapping-add-u64-requires
-    sextw-requires
-    shift-imm-32-requires
+    (λ c κs. search needs)
+    (λ c κs. search needs)
+    (λ c κs. search needs)
+    (λ c κs. search needs)
     returns
     returns-2)

@@ -9,27 +9,6 @@ use borrow.Author.Needs.{needs}
 use Rattle.rv64.proofs.decode.shift_imm.Statement.{statement}
 use Rattle.rv64.proofs.decode.shift_imm.Tie as tie
 
-cast-shamt : tie.Need-cast-shamt
-cast-shamt c = search needs
-
-mul-match : tie.Need-mul-match
-mul-match c = search needs
-
-add-match : tie.Need-add-match
-add-match c = search needs
-
-shl-t12 : tie.Need-shl-t12
-shl-t12 c = search needs
-
-shr-t14 : tie.Need-shr-t14
-shr-t14 c = search needs
-
-cast-asr : tie.Need-cast-asr
-cast-asr c = search needs
-
-asr-requires : tie.Need-asr-requires
-asr-requires c κs = search needs
-
 returns : tie.Need-returns
 unfolding S.shiftImm N.value D.shifts
 returns c = rw (c .match .keys1)
@@ -50,13 +29,13 @@ pub shift-imm-spec : {M : Type 1} → statement M
 shift-imm-spec =
     tie.close
     (tie.spec
-    cast-shamt
-    mul-match
-    add-match
-    shl-t12
-    shr-t14
-    cast-asr
-    asr-requires
+    (λ c. search needs)
+    (λ c. search needs)
+    (λ c. search needs)
+    (λ c. search needs)
+    (λ c. search needs)
+    (λ c. search needs)
+    (λ c κs. search needs)
     returns
     returns-2
     returns-3

@@ -9,36 +9,6 @@ use borrow.Author.Needs.{needs}
 use Rattle.rv64.proofs.decode.shift_imm_32.Statement.{statement}
 use Rattle.rv64.proofs.decode.shift_imm_32.Tie as tie
 
-cast-shamt : tie.Need-cast-shamt
-cast-shamt c = search needs
-
-funct10-requires : tie.Need-funct10-requires
-funct10-requires c κs = search needs
-
-shl-sextw : tie.Need-shl-sextw
-shl-sextw c = search needs
-
-sextw-requires : tie.Need-sextw-requires
-sextw-requires c κs = search needs
-
-shr-sextw : tie.Need-shr-sextw
-shr-sextw c = search needs
-
-sextw-requires-2 : tie.Need-sextw-requires-2
-sextw-requires-2 c κs = search needs
-
-sextw-requires-3 : tie.Need-sextw-requires-3
-sextw-requires-3 c κs = search needs
-
-cast-asr : tie.Need-cast-asr
-cast-asr c = search needs
-
-asr-requires : tie.Need-asr-requires
-asr-requires c κs = search needs
-
-sextw-requires-4 : tie.Need-sextw-requires-4
-sextw-requires-4 c κs = search needs
-
 returns : tie.Need-returns
 unfolding S.shiftImm32 N.value D.shifts32
 returns c = rw (c .sextw .ensures, ← c .before .before .funct10 .ensures, c .before .match .keys1)
@@ -59,16 +29,16 @@ pub shift-imm-32-spec : {M : Type 1} → statement M
 shift-imm-32-spec =
     tie.close
     (tie.spec
-    cast-shamt
-    funct10-requires
-    shl-sextw
-    sextw-requires
-    shr-sextw
-    sextw-requires-2
-    sextw-requires-3
-    cast-asr
-    asr-requires
-    sextw-requires-4
+    (λ c. search needs)
+    (λ c κs. search needs)
+    (λ c. search needs)
+    (λ c κs. search needs)
+    (λ c. search needs)
+    (λ c κs. search needs)
+    (λ c κs. search needs)
+    (λ c. search needs)
+    (λ c κs. search needs)
+    (λ c κs. search needs)
     returns
     returns-2
     returns-3

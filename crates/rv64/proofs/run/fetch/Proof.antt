@@ -6,15 +6,9 @@ use borrow.Author.Needs.{needs}
 use Rattle.rv64.proofs.run.fetch.Statement.{statement}
 use Rattle.rv64.proofs.run.fetch.Tie as tie
 
-sub-left : tie.Need-sub-left
-sub-left c = search needs
-
 returns : tie.Need-returns
 unfolding encoding
 returns c = rw (length-drop, lt-ltb _ _ (c .if1 .taken))
-
-load16-requires : tie.Need-load16-requires
-load16-requires c κs = search needs
 
 returns-2 : tie.Need-returns-2
 unfolding encoding
@@ -24,9 +18,6 @@ returns-3 : tie.Need-returns-3
 unfolding encoding
 returns-3 c = rw (length-drop, le-ltb _ _ (c .before .before .before .if1 .left), at-front, ← c .before .before .load16 .ensures, eq-eqb _ _ (c .before .if2 .left), lt-ltb _ _ (c .if3 .taken))
 
-load32-requires : tie.Need-load32-requires
-load32-requires c κs = search needs
-
 returns-4 : tie.Need-returns-4
 unfolding encoding
 returns-4 c = rw (length-drop, le-ltb _ _ (c .before .before .before .before .if1 .left), at-front 2, ← c .before .before .before .load16 .ensures, at-front 4, ← c .load32 .ensures, eq-eqb _ _ (c .before .before .if2 .left), le-ltb _ _ (c .before .if3 .left))
@@ -34,4 +25,4 @@ returns-4 c = rw (length-drop, le-ltb _ _ (c .before .before .before .before .if
 pub fetch-spec : {M : Type 1} → statement M
 fetch-spec =
     tie.close
-    (tie.spec sub-left returns load16-requires returns-2 returns-3 load32-requires returns-4)
+    (tie.spec (λ c. search needs) returns (λ c κs. search needs) returns-2 returns-3 (λ c κs. search needs) returns-4)

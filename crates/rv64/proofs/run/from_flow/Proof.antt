@@ -3,18 +3,6 @@ use borrow.Author.Needs.{needs}
 use Rattle.rv64.proofs.run.from_flow.Statement.{statement}
 use Rattle.rv64.proofs.run.from_flow.Tie as tie
 
-enum-known-flow : tie.Need-enum-known-flow
-enum-known-flow c = search needs
-
-enum-known-flow-2 : tie.Need-enum-known-flow-2
-enum-known-flow-2 c = search needs
-
-enum-told : tie.Need-enum-told
-enum-told c = search needs
-
-enum-told-2 : tie.Need-enum-told-2
-enum-told-2 c = search needs
-
 returns : tie.Need-returns
 unfolding S.flowed
 returns c = rw (c .before .flow .given .1)
@@ -35,10 +23,10 @@ pub from-flow-spec : {M : Type 1} → statement M
 from-flow-spec =
     tie.close
     (tie.spec
-    enum-known-flow
-    enum-known-flow-2
-    enum-told
-    enum-told-2
+    (λ c. search needs)
+    (λ c. search needs)
+    (λ c. search needs)
+    (λ c. search needs)
     returns
     returns-2
     returns-3

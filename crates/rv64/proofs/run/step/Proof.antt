@@ -5,30 +5,6 @@ use borrow.Author.Needs.{needs}
 use Rattle.rv64.proofs.run.step.Statement.{statement}
 use Rattle.rv64.proofs.run.step.Tie as tie
 
-fetch-requires : tie.Need-fetch-requires
-fetch-requires c κs = search needs
-
-enum-told : tie.Need-enum-told
-enum-told c = search needs
-
-enum-known-w : tie.Need-enum-known-w
-enum-known-w c = search needs
-
-step16-requires : tie.Need-step16-requires
-step16-requires c κs = search needs
-
-from-flow-requires : tie.Need-from-flow-requires
-from-flow-requires c κs = search needs
-
-enum-known-w-2 : tie.Need-enum-known-w-2
-enum-known-w-2 c = search needs
-
-step32-requires : tie.Need-step32-requires
-step32-requires c κs = search needs
-
-from-flow-requires-2 : tie.Need-from-flow-requires-2
-from-flow-requires-2 c κs = search needs
-
 returns : tie.Need-returns
 unfolding stepped after decoded
 returns c = rw (fetched, ← c .before .before .fetch .ensures, c .enum-told .given .1) (refl, refl)
@@ -45,14 +21,14 @@ pub step-spec : {M : Type 1} → statement M
 step-spec =
     tie.close
     (tie.spec
-    fetch-requires
-    enum-told
-    enum-known-w
-    step16-requires
-    from-flow-requires
-    enum-known-w-2
-    step32-requires
-    from-flow-requires-2
+    (λ c κs. search needs)
+    (λ c. search needs)
+    (λ c. search needs)
+    (λ c κs. search needs)
+    (λ c κs. search needs)
+    (λ c. search needs)
+    (λ c κs. search needs)
+    (λ c κs. search needs)
     returns
     returns-2
     returns-3)
