@@ -23,4 +23,3 @@ emit-c-jalr-spec =
     (λ c κs. search needs)
     returns)
 
--- x

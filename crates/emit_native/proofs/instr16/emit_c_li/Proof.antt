@@ -12,4 +12,3 @@ pub emit-c-li-spec : {M : Type 1} → statement M
 emit-c-li-spec =
     tie.close (tie.spec (λ c κs. search needs) (λ c κs. search needs) (λ c κs. search needs) (λ c κs. search needs) returns)
 
--- x

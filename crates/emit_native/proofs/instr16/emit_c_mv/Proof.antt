@@ -17,4 +17,3 @@ emit-c-mv-spec =
     tie.close
     (tie.spec (λ c κs. search needs) returns (λ c κs. search needs) (λ c κs. search needs) (λ c κs. search needs) returns-2)
 
--- x

@@ -33,4 +33,3 @@ emit-native-instr16-spec =
     returns-3
     returns-4)
 
--- x
