@@ -22,4 +22,3 @@ emit-c-jalr-spec =
     (λ c κs. search needs)
     (λ c κs. search needs)
     returns)
-

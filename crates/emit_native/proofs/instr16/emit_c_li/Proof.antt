@@ -11,4 +11,3 @@ returns c = record { words = rw (c .go-on .ensures .0, c .before .mov-reg .ensur
 pub emit-c-li-spec : {M : Type 1} → statement M
 emit-c-li-spec =
     tie.close (tie.spec (λ c κs. search needs) (λ c κs. search needs) (λ c κs. search needs) (λ c κs. search needs) returns)
-

@@ -16,4 +16,3 @@ pub emit-c-mv-spec : {M : Type 1} → statement M
 emit-c-mv-spec =
     tie.close
     (tie.spec (λ c κs. search needs) returns (λ c κs. search needs) (λ c κs. search needs) (λ c κs. search needs) returns-2)
-

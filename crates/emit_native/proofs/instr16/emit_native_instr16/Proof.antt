@@ -32,4 +32,3 @@ emit-native-instr16-spec =
     returns-2
     returns-3
     returns-4)
-

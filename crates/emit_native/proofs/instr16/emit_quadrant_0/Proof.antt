@@ -14,4 +14,3 @@ returns-2 c = rw (ne-eqb _ _ (c .before .match .rest .1)) (record { words = rw (
 
 pub emit-quadrant-0-spec : {M : Type 1} → statement M
 emit-quadrant-0-spec = tie.close (tie.spec (λ c κs. search needs) (λ c κs. search needs) returns returns-2)
-
