@@ -14,32 +14,32 @@ use Rattle.a64.specs.declared.Form.{Form}
 use Rattle.a64.specs.declared.Form.the-variants.{Movz, Movk}
 use Rattle.a64.specs.Forms.{encode, InRange, decode}
 use Rattle.a64.proofs.Coding.{decode-encode}
-use Rattle.a64.specs.Emitter.{max-words, emitted, encoded, emitted-all, halfword, upper, constant, Written, bytes, word-bytes}
+use Rattle.a64.specs.Emitter.{max-words, instr-words, emitted-in, emitted, encoded, emitted-all, halfword, upper, constant, written, Written, bytes, word-bytes}
 
 -- words that fit are added
-pub emitted-fits : (h ws : List ℕ) → length h + length ws ≤ max-words → emitted h ws ≡ h ++ ws
-unfolding emitted
-emitted-fits h ws f = rw (le-leb (length h + length ws) max-words f)
+pub emitted-fits : (m : ℕ) (h ws : List ℕ) → length h + length ws ≤ m → emitted-in m h ws ≡ h ++ ws
+unfolding emitted-in
+emitted-fits m h ws f = rw (le-leb (length h + length ws) m f)
 
 -- words that do not fit are not
-pub emitted-full : (h ws : List ℕ) → max-words < length h + length ws → emitted h ws ≡ h
-unfolding emitted
-emitted-full h ws f = rw (lt-leb (length h + length ws) max-words f)
+pub emitted-full : (m : ℕ) (h ws : List ℕ) → m < length h + length ws → emitted-in m h ws ≡ h
+unfolding emitted-in
+emitted-full m h ws f = rw (lt-leb (length h + length ws) m f)
 
 cond-same : (b : Bool) (h : List ℕ) → cond b h h ≡ h
 cond-same true h = refl
 cond-same false h = refl
 
 -- no words
-pub emitted-none : (h : List ℕ) → emitted h [] ≡ h
-unfolding emitted
-emitted-none h = rw append-nil (cond-same (leb (length h + 0) max-words) h)
+pub emitted-none : (m : ℕ) (h : List ℕ) → emitted-in m h [] ≡ h
+unfolding emitted-in
+emitted-none m h = rw append-nil (cond-same (leb (length h + 0) m) h)
 
 pub length-encoded : (fs : List Form) → length (encoded fs) ≡ length fs
 length-encoded fs = length-map fs encode
 
 -- the words of several calls, where all fit
-pub emitted-all-fits : (h : List ℕ) (gs : List (List Form)) → length h + length (flatten gs) ≤ max-words
+pub emitted-all-fits : (h : List ℕ) (gs : List (List Form)) → length h + length (flatten gs) ≤ instr-words
     → emitted-all h gs ≡ h ++ encoded (flatten gs)
 unfolding flatten
 emitted-all-fits h [] f = sym (append-nil h)
@@ -47,11 +47,15 @@ emitted-all-fits h (g ∷ gs) f =
     let l : length (g ++ flatten gs) ≡ length g + length (flatten gs) = length-append g (flatten gs) in
     let m : length (encoded g) ≡ length g = length-encoded g in
     let k : length (h ++ encoded g) ≡ length h + length (encoded g) = length-append h (encoded g) in
-    rw (emitted-fits h (encoded g) (omega arith), emitted-all-fits (h ++ encoded g) gs (omega arith), append-assoc, map-append)
+    rw (emitted-fits instr-words h (encoded g) (omega arith), emitted-all-fits (h ++ encoded g) gs (omega arith), append-assoc, map-append)
 
 -- the words of several calls on an emitter that holds nothing
-pub emitted-all-new : (h : List ℕ) (gs : List (List Form)) → h ≡ [] → length (flatten gs) ≤ max-words → emitted-all h gs ≡ encoded (flatten gs)
+pub emitted-all-new : (h : List ℕ) (gs : List (List Form)) → h ≡ [] → length (flatten gs) ≤ instr-words → emitted-all h gs ≡ encoded (flatten gs)
 emitted-all-new h gs e f = rw e (emitted-all-fits [] gs (omega arith))
+
+-- the words of one call on an emitter that holds nothing
+pub emitted-new : (h ws p : List ℕ) → h ≡ [] → p ≡ emitted h ws → length ws ≤ instr-words → p ≡ ws
+emitted-new h ws p new e f = e ∙ rw new (emitted-fits instr-words [] ws (omega arith))
 
 -- calls after calls
 pub emitted-all-append : (h : List ℕ) (gs bs : List (List Form)) → emitted-all h (gs ++ bs) ≡ emitted-all (emitted-all h gs) bs
@@ -59,24 +63,24 @@ emitted-all-append h [] bs = refl
 emitted-all-append h (g ∷ gs) bs = emitted-all-append (emitted h (encoded g)) gs bs
 
 -- where all fit, the calls are one
-pub emitted-all-one : (h : List ℕ) (gs : List (List Form)) → length h + length (flatten gs) ≤ max-words
+pub emitted-all-one : (h : List ℕ) (gs : List (List Form)) → length h + length (flatten gs) ≤ instr-words
     → emitted-all h gs ≡ emitted h (encoded (flatten gs))
 emitted-all-one h gs f =
     let m : length (encoded (flatten gs)) ≡ length (flatten gs) = length-encoded (flatten gs) in
-    emitted-all-fits h gs f ∙ sym (emitted-fits h (encoded (flatten gs)) (omega arith))
+    emitted-all-fits h gs f ∙ sym (emitted-fits instr-words h (encoded (flatten gs)) (omega arith))
 
 -- ---- an array of words
 
 -- one word stored behind n
-pub stored : (l : List ℕ) (n w : ℕ) → length l ≡ max-words → n < max-words → take (n + 1) (set l n w) ≡ emitted (take n l) (w ∷ [])
-stored l n w e h =
+pub stored : (m : ℕ) (l : List ℕ) (n w : ℕ) → length l ≡ m → n < m → take (n + 1) (set l n w) ≡ emitted-in m (take n l) (w ∷ [])
+stored m l n w e h =
     let k : length (take n l) ≡ n = length-take-le n l (omega arith) in
-    rw (add-one, take-suc-set l n w (omega arith), emitted-fits (take n l) (w ∷ []) (omega arith))
+    rw (add-one, take-suc-set l n w (omega arith), emitted-fits m (take n l) (w ∷ []) (omega arith))
 
 -- no room behind n
-pub kept : (l : List ℕ) (n : ℕ) (ws : List ℕ) → length l ≡ max-words → max-words < n + length ws → emitted (take n l) ws ≡ take n l
-kept l n [] e h = emitted-none (take n l)
-kept l n (w ∷ ws) e h = emitted-full (take n l) (w ∷ ws) (rw length-take (omega arith))
+pub kept : (m : ℕ) (l : List ℕ) (n : ℕ) (ws : List ℕ) → length l ≡ m → m < n + length ws → emitted-in m (take n l) ws ≡ take n l
+kept m l n [] e h = emitted-none m (take n l)
+kept m l n (w ∷ ws) e h = emitted-full m (take n l) (w ∷ ws) (rw length-take (omega arith))
 
 take-min : (n : ℕ) (l : List ℕ) → take (min n (length l)) l ≡ take n l
 take-min zero [] = take-nil (min 0 0)
@@ -87,18 +91,18 @@ take-min (suc n) (x ∷ l) =
     rw e (ap (λ (t : List ℕ). x ∷ t) (take-min n l))
 
 -- the words that are held, by their count
-pub take-held : (n : ℕ) (l : List ℕ) → length l ≡ max-words → take (min n max-words) l ≡ take n l
-take-held n l e = rw e at (take-min n l)
+pub take-held : (m n : ℕ) (l : List ℕ) → length l ≡ m → take (min n m) l ≡ take n l
+take-held m n l e = rw e at (take-min n l)
 
 -- the words of an emitter copied behind n
-pub pasted : (l : List ℕ) (at : ℕ) (s : List ℕ) (n : ℕ) → length l ≡ max-words → length s ≡ max-words
-    → at + min n max-words ≤ max-words
-    → take (at + min n max-words) (paste l at s (min n max-words)) ≡ emitted (take at l) (take n s)
-pasted l at s n e f h =
+pub pasted : (m k : ℕ) (l : List ℕ) (at : ℕ) (s : List ℕ) (n : ℕ) → length l ≡ m → length s ≡ k
+    → at + min n k ≤ m
+    → take (at + min n k) (paste l at s (min n k)) ≡ emitted-in m (take at l) (take n s)
+pasted m k l at s n e f h =
     let a : length (take at l) ≡ at = length-take-le at l (omega arith) in
-    let b : length (take n s) ≡ min n max-words = rw f at (length-take n s) in
-    take-paste l at s (min n max-words) (omega arith) (omega arith)
-    ∙ rw (take-held n s f) (sym (emitted-fits (take at l) (take n s) (omega arith)))
+    let b : length (take n s) ≡ min n k = rw f at (length-take n s) in
+    take-paste l at s (min n k) (omega arith) (omega arith)
+    ∙ rw (take-held k n s f) (sym (emitted-fits m (take at l) (take n s) (omega arith)))
 
 -- ---- bytes
 
@@ -131,14 +135,23 @@ bytes-more ws d i h k =
     ap (λ (n : ℕ). drop (n + 4) (b ++ x)) (sym lb) ∙ drop-append-add b x 4 ∙ drop-drop 4 (4 * i) d ∙ ap (λ (n : ℕ). drop n d) q in
     sets-eq (word-bytes w) (b ++ x) (4 * i) (omega (arith, length-drop (4 * i) d)) ∙ rw (take-at b x (4 * i) lb, g, f)
 
--- all the held words as bytes
-pub written : (ws d : List ℕ) (len : ℕ) → length ws ≡ max-words → (n : ℕ) → n ≡ min len max-words → (d′ : List ℕ)
-    → d′ ≡ bytes (take n ws) ++ drop (4 * n) d → Written (take len ws) d (4 * n) d′
-written ws d len l n e d′ f =
-    let t : take n ws ≡ take len ws = rw e (take-held len ws l) in
-    let k : length (take len ws) ≡ n = rw l at (length-take len ws) ∙ sym e in
-    let b : 4 * n ≡ length (bytes (take len ws)) = omega (arith, length-bytes (take len ws)) in
-    record { count = b; content = f ∙ rw (t, b) }
+-- all the held words as bytes, where they fit in d
+pub held-bytes : (ws : List ℕ) (len : ℕ) → length ws ≡ max-words → length (bytes (take len ws)) ≡ 4 * min len max-words
+held-bytes ws len l = let k : length (take len ws) ≡ min len max-words = rw l at (length-take len ws) in omega (arith, length-bytes (take len ws))
+
+pub all-written : (ws d : List ℕ) (len : ℕ) → length ws ≡ max-words → 4 * min len max-words ≤ length d → (d′ : List ℕ)
+    → d′ ≡ bytes (take (min len max-words) ws) ++ drop (4 * min len max-words) d → Written (take len ws) d (4 * min len max-words) d′
+unfolding written
+all-written ws d len l f d′ e =
+    let b : length (bytes (take len ws)) ≡ 4 * min len max-words = held-bytes ws len l in
+    record { count = sym b; content = e ∙ rw (take-held max-words len ws l, b, le-leb (4 * min len max-words) (length d) f) }
+
+-- nothing where they do not
+pub none-written : (ws d : List ℕ) (len : ℕ) → length ws ≡ max-words → length d < 4 * min len max-words → Written (take len ws) d (4 * min len max-words) d
+unfolding written
+none-written ws d len l f =
+    let b : length (bytes (take len ws)) ≡ 4 * min len max-words = held-bytes ws len l in
+    record { count = sym b; content = rw (b, lt-leb (4 * min len max-words) (length d) f) }
 
 -- ---- constants
 
@@ -185,7 +198,7 @@ pub constant-least : (rd v : ℕ) → 1 ≤ length (constant rd v)
 constant-least rd v = omega (arith, constant-length rd v _ _ _ refl refl refl)
 
 -- a constant that fits is its parts, one after the other
-pub constant-one : (h : List ℕ) (rd v : ℕ) → length h + length (constant rd v) ≤ max-words
+pub constant-one : (h : List ℕ) (rd v : ℕ) → length h + length (constant rd v) ≤ instr-words
     → emitted-all h (parts rd v) ≡ emitted h (encoded (constant rd v))
 constant-one h rd v f = rw constant-parts (emitted-all-one h (parts rd v) (rw constant-parts at f))
 

@@ -1,4 +1,4 @@
--- The words that an emitter holds, and what the calls that add words leave.
+-- The words that an emitter holds, an instruction's and a block's, and what the calls that add words leave.
 use Prim.Native.Nat.{ℕ, _+_, _*_, _/_, _%_, _^_, _≤_}
 use mathlib.Core.Path.{_≡_}
 use mathlib.Core.Bool.{Bool, true, false, cond}
@@ -6,20 +6,37 @@ use mathlib.Core.List.{List, [], _∷_, _++_, map}
 use lib.ListN.{length, take, drop}
 use lib.Dec.{leb, eqb}
 use Rattle.a64.specs.declared.A64Emitter.{A64Emitter}
+use Rattle.a64.specs.declared.InstrEmitter.{InstrEmitter}
 use Rattle.a64.specs.declared.Form.{Form}
 use Rattle.a64.specs.declared.Form.the-variants.{Movz, Movk}
 use Rattle.a64.specs.Forms.{encode}
 
--- the most words of an emitter: 29 for each of 64 instructions, and 6 for the end of the block (document 01)
+-- the most words of a block: 29 for each of 64 instructions, and 6 for its end (document 01)
 abbrev pub max-words : ℕ
 max-words = 1862
 
-unfoldable pub held : A64Emitter → List ℕ
+-- the most words of an instruction, or of the end of a block: 29 inline, and 30 of a helper's call
+abbrev pub instr-words : ℕ
+instr-words = 30
+
+unfoldable pub held : InstrEmitter → List ℕ
 held e = take (e .len) (e .words)
 
--- the words h after a call that adds ws: with all of ws, or unchanged where they do not fit
-unfoldable pub emitted : List ℕ → List ℕ → List ℕ
-emitted h ws = cond (leb (length h + length ws) max-words) (h ++ ws) h
+unfoldable pub block-words : A64Emitter → List ℕ
+block-words e = take (e .len) (e .words)
+
+-- the words h, of which there is room for m, after a call that adds ws: with all of ws, or unchanged where they do not fit
+unfoldable pub emitted-in : ℕ → List ℕ → List ℕ → List ℕ
+emitted-in m h ws = cond (leb (length h + length ws) m) (h ++ ws) h
+
+-- the same of an instruction's emitter
+abbrev pub emitted : List ℕ → List ℕ → List ℕ
+emitted h ws = emitted-in instr-words h ws
+
+-- a word, where the test holds
+unfoldable pub emitted-if : Bool → ℕ → List ℕ
+emitted-if true w = w ∷ []
+emitted-if false w = []
 
 abbrev pub encoded : List Form → List ℕ
 encoded fs = map encode fs
@@ -41,11 +58,11 @@ upper rd hw p = cond (eqb p 0) [] (Movk rd hw p ∷ [])
 unfoldable pub constant : ℕ → ℕ → List Form
 constant rd v = Movz rd 0 (v % 65536) ∷ (upper rd 1 (halfword 1 v) ++ (upper rd 2 (halfword 2 v) ++ upper rd 3 (halfword 3 v)))
 
--- what a call leaves of an array l whose first n words are held: the first r of l′ are held, and they are those with ws added
-pub record Added (l : List ℕ) (n : ℕ) (l′ : List ℕ) (r : ℕ) (ws : List ℕ) : Type 0 where
-  pub long : length l′ ≡ max-words
-  pub holds : take r l′ ≡ emitted (take n l) ws
-  pub room : (n ≤ max-words → r ≤ max-words)
+-- what a call leaves of an array l of m words whose first n are held: the first r of l′ are held, and they are those with ws added
+pub record Added (m : ℕ) (l : List ℕ) (n : ℕ) (l′ : List ℕ) (r : ℕ) (ws : List ℕ) : Type 0 where
+  pub long : length l′ ≡ m
+  pub holds : take r l′ ≡ emitted-in m (take n l) ws
+  pub room : (n ≤ m → r ≤ m)
 
 -- words as bytes, lowest first
 abbrev pub word-bytes : ℕ → List ℕ
@@ -55,7 +72,11 @@ abbrev pub bytes : List ℕ → List ℕ
 bytes [] = []
 bytes (w ∷ ws) = word-bytes w ++ bytes ws
 
--- what is left of d with the words ws at its front: r bytes are theirs, and the rest is unchanged
+-- d with the words ws as bytes at its front and the rest unchanged, where they fit
+unfoldable pub written : List ℕ → List ℕ → List ℕ
+written ws d = cond (leb (length (bytes ws)) (length d)) (bytes ws ++ drop (length (bytes ws)) d) d
+
+-- the words ws written to d, which is then d′: r bytes are theirs
 pub record Written (ws d : List ℕ) (r : ℕ) (d′ : List ℕ) : Type 0 where
   pub count : r ≡ length (bytes ws)
-  pub content : d′ ≡ bytes ws ++ drop (length (bytes ws)) d
+  pub content : d′ ≡ written ws d

@@ -1,7 +1,7 @@
 -- Calls of the emitter, one for each line of the Rust, and the forms that each adds.
 use Prim.Native.Nat.{ℕ, _+_, _*_, _/_}
 use mathlib.Core.Path.{_≡_}
-use mathlib.Core.Bool.{Bool, cond}
+use mathlib.Core.Bool.{Bool, true, false, cond, not}
 use mathlib.Core.List.{List, [], _∷_, _++_, map, flatten}
 use lib.Dec.{eqb}
 use Rattle.a64.specs.declared.Op.the-variants.{Add, Sub, And, Orr, Eor, Lslv, Lsrv, Asrv, Mul, Smulh, Umulh, Udiv, Sdiv}
@@ -134,6 +134,12 @@ none cs = record { calls = cs; flow = None }
 -- calls in front of a match
 abbrev pub behind : List Call → Emission → Emission
 behind cs e = record { calls = cs ++ e .calls; flow = e .flow }
+
+-- whether it is passed by, or rd is 0
+unfoldable pub stores : EmitFlow → ℕ → Bool
+stores Continue rd = not (eqb rd 0)
+stores Terminate rd = false
+stores None rd = false
 
 -- `store_rd(em, rd)` behind a match, which a `return None` passes by
 unfoldable pub store-rd : EmitFlow → ℕ → List Call

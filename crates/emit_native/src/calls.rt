@@ -5,7 +5,7 @@ ghost use Prim.Native.Nat.{_<_, _≤_};
 ghost use Rattle.a64.specs.declared.Form.{Form};
 ghost use Rattle.a64.specs.Forms.{encode};
 ghost use Rattle.a64.specs.Emitter.{held, emitted, emitted-all, encoded};
-ghost use Rattle.emit_native.specs.Calls.{Call, forms, groups, reg-off, if-not-0, store-rd};
+ghost use Rattle.emit_native.specs.Calls.{Call, forms, groups, reg-off, if-not-0, stores, store-rd};
 use crate::EmitFlow;
 use crate::Emitted;
 use a64::A64Emitter;
@@ -66,6 +66,17 @@ pub fn with_imm(em: A64Emitter, slots: u16, rs: u8, imm: u64, w: u32, rd: u8) ->
     store(em, slots, 11, rd)
 }
 
+// Whether a match is followed by a store to rd.
+fn stores(flow: EmitFlow, rd: u8) -> bool
+    ensures { λ r. ⌜ r ≡ stores flow rd ⌝ }
+{
+    match flow {
+        EmitFlow::Continue => rd != 0,
+        EmitFlow::Terminate => false,
+        EmitFlow::None => false,
+    }
+}
+
 // X11 into a guest register that is not 0, behind a match whose arm was found.
 pub fn store_rd(out: Emitted, slots: u16, rd: u8) -> Emitted
     requires { ⌜ (slots ≤ 32512) × (rd < 32) ⌝ }
@@ -73,29 +84,9 @@ pub fn store_rd(out: Emitted, slots: u16, rd: u8) -> Emitted
 {
     let flow = out.flow;
     let em = out.em;
-    match flow {
-        EmitFlow::Continue => {
-            if rd == 0 {
-                return Emitted {
-                    em,
-                    flow: EmitFlow::Continue,
-                };
-            }
-            let em = store(em, slots, 11, rd);
-            Emitted {
-                em,
-                flow: EmitFlow::Continue,
-            }
-        }
-        EmitFlow::Terminate => Emitted {
-            em,
-            flow: EmitFlow::Terminate,
-        },
-        EmitFlow::None => Emitted {
-            em,
-            flow: EmitFlow::None,
-        },
-    }
+    let test = stores(flow, rd);
+    let em = em.emit_if(test, A64Emitter::str_x(11, 0, reg_off(slots, rd)));
+    Emitted { em, flow }
 }
 
 // `Some(EmitFlow::Continue)`, `Some(EmitFlow::Terminate)` and `None`.

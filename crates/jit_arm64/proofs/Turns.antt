@@ -46,10 +46,10 @@ unfolding words
 words-append slots cs ds = ap encoded (forms-append slots cs ds) ∙ map-append encode (flatten (groups slots cs)) (flatten (groups slots ds))
 
 -- they all fit
-pub put : (l : List ℕ) (n : ℕ) (l′ : List ℕ) (r : ℕ) (ws : List ℕ) → length l ≡ max-words → n + length ws ≤ max-words → Added l n l′ r ws → Appended l n l′ r ws
+pub put : (l : List ℕ) (n : ℕ) (l′ : List ℕ) (r : ℕ) (ws : List ℕ) → length l ≡ max-words → n + length ws ≤ max-words → Added max-words l n l′ r ws → Appended l n l′ r ws
 put l n l′ r ws long room added =
     let b : length (take n l) ≡ n = rw long at (length-take n l) ∙ (omega arith) in
-    let h : take r l′ ≡ take n l ++ ws = added .holds ∙ emitted-fits (take n l) ws (omega arith) in
+    let h : take r l′ ≡ take n l ++ ws = added .holds ∙ emitted-fits max-words (take n l) ws (omega arith) in
     let k : min r max-words ≡ length (take n l) + length ws = sym (rw (added .long) at (length-take r l′)) ∙ ap length h ∙ length-append (take n l) ws in
     let m : r ≤ max-words = added .room (omega arith) in
     record { long = added .long; holds = h; len = omega arith; room = m }
@@ -67,7 +67,7 @@ behind {l} {n = n} {us = us} {vs = vs} a b =
 unfoldable pub most : Outcome → ℕ
 most GoOn = 29
 most End = 29
-most Help = 33
+most Help = 30
 most Pass = 29
 most Lack = 29
 
@@ -82,32 +82,33 @@ constant-small rd v h =
     constant-length rd v 0 0 0 (ap length (upper-none rd 1 (halfword 1 v) a)) (ap length (upper-none rd 2 (halfword 2 v) b)) (ap length (upper-none rd 3 (halfword 3 v) c))
 
 module _ (slots : ℕ) where
-  call-size : (helper k : ℕ) → size slots (call-helper helper k) ≤ 15
-  call-size helper k =
-      let cs : List Call = mov-imm64 16 helper ∷ emit (sub-sp-imm 16) ∷ emit (str-x 30 31 0) ∷ emit (blr 16) ∷ emit (ldr-x 30 31 0) ∷ emit (add-sp-imm 16) ∷ [] in
-      let ds : List Call = mov-imm64 12 k ∷ emit (add-x 1 1 12) ∷ [] in
-      let es : List Call = emit ret ∷ [] in
-      omega (
-        arith,
-        size-append slots cs (if-not-0 k ds ++ es),
-        size-append slots (if-not-0 k ds) es,
-        size-le slots cs,
-        size-le slots es,
-        if-size slots k ds 5 (size-le slots ds),
-      )
-
-  exec-size : (helper pc instr k : ℕ) → size slots (call-exec helper pc instr k) ≤ 33
-  exec-size helper pc instr k =
-      let cs : List Call = emit (mov-x 0 1) ∷ emit (mov-x 1 2) ∷ emit (mov-x 2 3) ∷ emit (mov-x 3 4) ∷ emit (mov-x 4 5) ∷ mov-imm64 5 instr ∷ mov-imm64 6 pc ∷ [] in
-      omega (arith, size-append slots cs (call-helper helper k), size-le slots cs, call-size helper k)
-
   -- a constant of 16 bits
   pub small : (rd v : ℕ) → v < 65536 → size slots (mov-imm64 rd v ∷ []) ≡ 1
   unfolding flatten
   small rd v h = rw (append-nil (constant rd v)) (constant-small rd v h)
 
-  load-size : (helper m pc instr : ℕ) (d : Decoded32) (k : ℕ) → m < 65536 → d .rd < 65536 → size slots (load-calls helper m pc instr d k) ≤ 33
-  load-size helper m pc instr d k h l =
+  call-size : (helper k : ℕ) → k < 65536 → size slots (call-helper helper k) ≤ 12
+  call-size helper k h =
+      let cs : List Call = mov-imm64 16 helper ∷ emit (sub-sp-imm 16) ∷ emit (str-x 30 31 0) ∷ emit (blr 16) ∷ emit (ldr-x 30 31 0) ∷ emit (add-sp-imm 16) ∷ [] in
+      let c : List Call = mov-imm64 12 k ∷ [] in
+      let d : List Call = emit (add-x 1 1 12) ∷ [] in
+      let es : List Call = emit ret ∷ [] in
+      omega (
+        arith,
+        size-append slots cs (if-not-0 k (c ++ d) ++ es),
+        size-append slots (if-not-0 k (c ++ d)) es,
+        size-le slots cs,
+        size-le slots es,
+        if-size slots k (c ++ d) 2 (omega (arith, size-append slots c d, small 12 k h, size-le slots d)),
+      )
+
+  exec-size : (helper pc instr k : ℕ) → k < 65536 → size slots (call-exec helper pc instr k) ≤ 30
+  exec-size helper pc instr k b =
+      let cs : List Call = emit (mov-x 0 1) ∷ emit (mov-x 1 2) ∷ emit (mov-x 2 3) ∷ emit (mov-x 3 4) ∷ emit (mov-x 4 5) ∷ mov-imm64 5 instr ∷ mov-imm64 6 pc ∷ [] in
+      omega (arith, size-append slots cs (call-helper helper k), size-le slots cs, call-size helper k b)
+
+  load-size : (helper m pc instr : ℕ) (d : Decoded32) (k : ℕ) → k < 65536 → m < 65536 → d .rd < 65536 → size slots (load-calls helper m pc instr d k) ≤ 30
+  load-size helper m pc instr d k b h l =
       let cs : List Call = load 9 (d .rs1) ∷ mov-imm64 10 (imm-i instr) ∷ emit (add-x 11 9 10) ∷ emit (mov-x 0 1) ∷ emit (mov-x 1 2) ∷ emit (mov-x 2 3) ∷ [] in
       let c3 : List Call = mov-imm64 3 m ∷ [] in
       let c4 : List Call = mov-imm64 4 (d .rd) ∷ [] in
@@ -126,11 +127,11 @@ module _ (slots : ℕ) where
         small 4 (d .rd) l,
         small 5 0 (omega arith),
         size-le slots es,
-        call-size helper k,
+        call-size helper k b,
       )
 
-  store-size : (helper m pc instr : ℕ) (d : Decoded32) (k : ℕ) → m < 65536 → d .rd < 65536 → size slots (store-calls helper m pc instr d k) ≤ 33
-  store-size helper m pc instr d k h l =
+  store-size : (helper m pc instr : ℕ) (d : Decoded32) (k : ℕ) → k < 65536 → m < 65536 → d .rd < 65536 → size slots (store-calls helper m pc instr d k) ≤ 30
+  store-size helper m pc instr d k b h l =
       let cs : List Call = load 9 (d .rs1) ∷ mov-imm64 10 (imm-s instr) ∷ emit (add-x 11 9 10) ∷ load 12 (d .rs2) ∷ emit (mov-x 0 1) ∷ emit (mov-x 1 2) ∷ emit (mov-x 2 3) ∷ [] in
       let c3 : List Call = mov-imm64 3 m ∷ [] in
       let c4 : List Call = mov-imm64 4 (d .rd) ∷ [] in
@@ -149,18 +150,18 @@ module _ (slots : ℕ) where
         small 4 (d .rd) l,
         size-le slots c5,
         size-le slots es,
-        call-size helper k,
+        call-size helper k b,
       )
 
   -- ---- an instruction is a helper's only where it is not inline and leaves nothing
 
   -- the helper's emitter refuses, or the inline one does with nothing left and the helper's takes the instruction
   abbrev pub Apart : Emission → Emission → Type 0
-  Apart e helper = (helper ≡ none []) ⊎ ((e ≡ none []) × (helper .flow ≡ Terminate) × (size slots (helper .calls) ≤ 33))
+  Apart e helper = (helper ≡ none []) ⊎ ((e ≡ none []) × (helper .flow ≡ Terminate) × (size slots (helper .calls) ≤ 30))
 
   -- taken, or refused
   abbrev Either : Emission → Type 0
-  Either helper = (helper ≡ none []) ⊎ ((helper .flow ≡ Terminate) × (size slots (helper .calls) ≤ 33))
+  Either helper = (helper ≡ none []) ⊎ ((helper .flow ≡ Terminate) × (size slots (helper .calls) ≤ 30))
 
   not-0 : (f : ℕ) → memory-funct3 f ≡ true → eqb f 0b000 ≡ false
   not-0 f h = by (eqb f 0b000) (λ t. let z : _≡_ false true = rw (eqb-true f 0b000 t) at h in cc) (λ t. t)
@@ -179,85 +180,85 @@ module _ (slots : ℕ) where
       rw (t, o, u, not-0 (c-funct3 instr) m, not-4 (c-funct3 instr) m))
       (λ u. let z : _≡_ false true = rw (t, u) at h in cc))
 
-  pub apart16 : (h : Host) (pc instr k : ℕ) → Apart (emit-native-instr16 (h .ebreak) pc instr) (emit-native-term-helper16 h pc instr k)
+  pub apart16 : (h : Host) (pc instr k : ℕ) → k < 65536 → Apart (emit-native-instr16 (h .ebreak) pc instr) (emit-native-term-helper16 h pc instr k)
   unfolding emit-native-term-helper16
-  apart16 h pc instr k =
+  apart16 h pc instr k b =
       by (supports (c-op instr) (c-funct3 instr))
-      (λ t. inr (supported (h .ebreak) pc instr t, rw t, rw t (exec-size (h .exec16) pc instr k)))
+      (λ t. inr (supported (h .ebreak) pc instr t, rw t, rw t (exec-size (h .exec16) pc instr k b)))
       (λ t. inl (rw t))
 
-  load-either : (h : Host) (pc instr : ℕ) (d : Decoded32) (k funct3 : ℕ) → d .rd < 65536 → Either (load-helper h pc instr d k funct3)
+  load-either : (h : Host) (pc instr : ℕ) (d : Decoded32) (k funct3 : ℕ) → k < 65536 → d .rd < 65536 → Either (load-helper h pc instr d k funct3)
   unfolding load-helper load-op
-  load-either h pc instr d k funct3 l =
-      by (eqb funct3 F3-LB) (λ t. inr (rw t, rw t (load-size (h .memory) 0 pc instr d k (omega arith) l)))
-      (λ t. rw t (by (eqb funct3 F3-LH) (λ t. inr (rw t, rw t (load-size (h .memory) 1 pc instr d k (omega arith) l)))
-      (λ t. rw t (by (eqb funct3 F3-LW) (λ t. inr (rw t, rw t (load-size (h .memory) 2 pc instr d k (omega arith) l)))
-      (λ t. rw t (by (eqb funct3 F3-LD) (λ t. inr (rw t, rw t (load-size (h .memory) 3 pc instr d k (omega arith) l)))
-      (λ t. rw t (by (eqb funct3 F3-LBU) (λ t. inr (rw t, rw t (load-size (h .memory) 4 pc instr d k (omega arith) l)))
-      (λ t. rw t (by (eqb funct3 F3-LHU) (λ t. inr (rw t, rw t (load-size (h .memory) 5 pc instr d k (omega arith) l)))
-      (λ t. rw t (by (eqb funct3 F3-LWU) (λ t. inr (rw t, rw t (load-size (h .memory) 6 pc instr d k (omega arith) l)))
+  load-either h pc instr d k funct3 b l =
+      by (eqb funct3 F3-LB) (λ t. inr (rw t, rw t (load-size (h .memory) 0 pc instr d k b (omega arith) l)))
+      (λ t. rw t (by (eqb funct3 F3-LH) (λ t. inr (rw t, rw t (load-size (h .memory) 1 pc instr d k b (omega arith) l)))
+      (λ t. rw t (by (eqb funct3 F3-LW) (λ t. inr (rw t, rw t (load-size (h .memory) 2 pc instr d k b (omega arith) l)))
+      (λ t. rw t (by (eqb funct3 F3-LD) (λ t. inr (rw t, rw t (load-size (h .memory) 3 pc instr d k b (omega arith) l)))
+      (λ t. rw t (by (eqb funct3 F3-LBU) (λ t. inr (rw t, rw t (load-size (h .memory) 4 pc instr d k b (omega arith) l)))
+      (λ t. rw t (by (eqb funct3 F3-LHU) (λ t. inr (rw t, rw t (load-size (h .memory) 5 pc instr d k b (omega arith) l)))
+      (λ t. rw t (by (eqb funct3 F3-LWU) (λ t. inr (rw t, rw t (load-size (h .memory) 6 pc instr d k b (omega arith) l)))
       (λ t. inl (rw t))))))))))))))
 
-  store-either : (h : Host) (pc instr : ℕ) (d : Decoded32) (k funct3 : ℕ) → d .rd < 65536 → Either (store-helper h pc instr d k funct3)
+  store-either : (h : Host) (pc instr : ℕ) (d : Decoded32) (k funct3 : ℕ) → k < 65536 → d .rd < 65536 → Either (store-helper h pc instr d k funct3)
   unfolding store-helper store-op
-  store-either h pc instr d k funct3 l =
-      by (eqb funct3 F3-SB) (λ t. inr (rw t, rw t (store-size (h .memory) 16 pc instr d k (omega arith) l)))
-      (λ t. rw t (by (eqb funct3 F3-SH) (λ t. inr (rw t, rw t (store-size (h .memory) 17 pc instr d k (omega arith) l)))
-      (λ t. rw t (by (eqb funct3 F3-SW) (λ t. inr (rw t, rw t (store-size (h .memory) 18 pc instr d k (omega arith) l)))
-      (λ t. rw t (by (eqb funct3 F3-SD) (λ t. inr (rw t, rw t (store-size (h .memory) 19 pc instr d k (omega arith) l)))
+  store-either h pc instr d k funct3 b l =
+      by (eqb funct3 F3-SB) (λ t. inr (rw t, rw t (store-size (h .memory) 16 pc instr d k b (omega arith) l)))
+      (λ t. rw t (by (eqb funct3 F3-SH) (λ t. inr (rw t, rw t (store-size (h .memory) 17 pc instr d k b (omega arith) l)))
+      (λ t. rw t (by (eqb funct3 F3-SW) (λ t. inr (rw t, rw t (store-size (h .memory) 18 pc instr d k b (omega arith) l)))
+      (λ t. rw t (by (eqb funct3 F3-SD) (λ t. inr (rw t, rw t (store-size (h .memory) 19 pc instr d k b (omega arith) l)))
       (λ t. inl (rw t))))))))
 
   both : (e helper : Emission) → e ≡ none [] → Either helper → Apart e helper
   both e helper a (inl b) = inl b
   both e helper a (inr b) = inr (a, b .0, b .1)
 
-  pub apart32 : (h : Host) (pc instr : ℕ) (d : Decoded32) (k : ℕ) → d .rd < 65536
+  pub apart32 : (h : Host) (pc instr : ℕ) (d : Decoded32) (k : ℕ) → k < 65536 → d .rd < 65536
       → Apart (emit-native-instr pc instr d) (emit-native-term-helper32 h pc instr d k)
   unfolding emit-native-instr emit-native-term-helper32 opcode-helper
-  apart32 h pc instr d k l =
+  apart32 h pc instr d k b l =
       by (eqb (d .opcode) OPCODE-SYSTEM) (λ t. inl (rw t))
       (λ s. by (eqb (d .opcode) OPCODE-LOAD)
-      (λ t. both _ _ (rw (eqb-true (d .opcode) OPCODE-LOAD t)) (rw (s, t) (load-either h pc instr d k (d .funct3) l)))
+      (λ t. both _ _ (rw (eqb-true (d .opcode) OPCODE-LOAD t)) (rw (s, t) (load-either h pc instr d k (d .funct3) b l)))
       (λ u. by (eqb (d .opcode) OPCODE-STORE)
-      (λ t. both _ _ (rw (eqb-true (d .opcode) OPCODE-STORE t)) (rw (s, u, t) (store-either h pc instr d k (d .funct3) l)))
+      (λ t. both _ _ (rw (eqb-true (d .opcode) OPCODE-STORE t)) (rw (s, u, t) (store-either h pc instr d k (d .funct3) b l)))
       (λ v. by (eqb (d .opcode) OPCODE-LOAD-FP)
-      (λ t. both _ _ (rw (eqb-true (d .opcode) OPCODE-LOAD-FP t)) (rw (s, u, v, t) (inr (refl, exec-size (h .exec32) pc instr k))))
+      (λ t. both _ _ (rw (eqb-true (d .opcode) OPCODE-LOAD-FP t)) (rw (s, u, v, t) (inr (refl, exec-size (h .exec32) pc instr k b))))
       (λ w. by (eqb (d .opcode) OPCODE-STORE-FP)
-      (λ t. both _ _ (rw (eqb-true (d .opcode) OPCODE-STORE-FP t)) (rw (s, u, v, w, t) (inr (refl, exec-size (h .exec32) pc instr k))))
+      (λ t. both _ _ (rw (eqb-true (d .opcode) OPCODE-STORE-FP t)) (rw (s, u, v, w, t) (inr (refl, exec-size (h .exec32) pc instr k b))))
       (λ x. by (eqb (d .opcode) OPCODE-AMO)
-      (λ t. both _ _ (rw (eqb-true (d .opcode) OPCODE-AMO t)) (rw (s, u, v, w, x, t) (inr (refl, exec-size (h .exec32) pc instr k))))
+      (λ t. both _ _ (rw (eqb-true (d .opcode) OPCODE-AMO t)) (rw (s, u, v, w, x, t) (inr (refl, exec-size (h .exec32) pc instr k b))))
       (λ t. inl (rw (s, u, v, w, x, t))))))))
 
   -- ---- one instruction, emitted by itself
 
-  helper-size : (e helper : Emission) → Apart e helper → size slots (helper .calls) ≤ 33
+  helper-size : (e helper : Emission) → Apart e helper → size slots (helper .calls) ≤ 30
   unfolding flatten
   helper-size e helper (inl a) = rw a (omega arith)
   helper-size e helper (inr a) = a .2
 
   -- how many words the inline part leaves room for
-  both-size : (e helper : Emission) → size slots (e .calls) ≤ 29 → Apart e helper → size slots (e .calls) + size slots (helper .calls) ≤ 33
+  both-size : (e helper : Emission) → size slots (e .calls) ≤ 29 → Apart e helper → size slots (e .calls) + size slots (helper .calls) ≤ 30
   unfolding flatten
   both-size e helper l (inl a) = rw a (omega arith)
   both-size e helper l (inr a) = let k = a .2 in rw (a .0) (omega arith)
 
-  pub helper16-size : (h : Host) (pc instr k : ℕ) → size slots (emit-native-term-helper16 h pc instr k .calls) ≤ 33
-  helper16-size h pc instr k = helper-size _ _ (apart16 h pc instr k)
+  pub helper16-size : (h : Host) (pc instr k : ℕ) → k < 65536 → size slots (emit-native-term-helper16 h pc instr k .calls) ≤ 30
+  helper16-size h pc instr k b = helper-size _ _ (apart16 h pc instr k b)
 
-  pub helper32-size : (h : Host) (pc instr k : ℕ) → size slots (emit-native-term-helper32 h pc instr (decode32 instr) k .calls) ≤ 33
-  helper32-size h pc instr k = helper-size _ _ (apart32 h pc instr (decode32 instr) k (omega arith))
+  pub helper32-size : (h : Host) (pc instr k : ℕ) → k < 65536 → size slots (emit-native-term-helper32 h pc instr (decode32 instr) k .calls) ≤ 30
+  helper32-size h pc instr k b = helper-size _ _ (apart32 h pc instr (decode32 instr) k b (omega arith))
 
-  words-size : (cs : List Call) → length (words slots cs) ≡ size slots cs
+  pub words-size : (cs : List Call) → length (words slots cs) ≡ size slots cs
   unfolding words
   words-size cs = length-encoded (flatten (groups slots cs))
 
   -- what an emitter's words are, from a new one
-  pub alone : (h : List ℕ) (e : Emission) (out : Emitted) → h ≡ [] → Emits slots h e out → size slots (e .calls) ≤ 33 → held (out .em) ≡ words slots (e .calls)
+  pub alone : (h : List ℕ) (e : Emission) (out : Emitted) → h ≡ [] → Emits slots h e out → size slots (e .calls) ≤ 30 → held (out .em) ≡ words slots (e .calls)
   unfolding words
   alone h e out new emits few = emits .words ∙ emitted-all-new h (groups slots (e .calls)) new (omega arith)
 
   module _ (e helper : Emission) (n : ℕ) {l l′ : List ℕ} {at len : ℕ} (few : size slots (e .calls) ≤ 29) (apart : Apart e helper)
-      (low : at ≤ 29 * 63) (long : length l ≡ max-words) {ws : List ℕ} (alone : ws ≡ words slots (e .calls)) (added : Added l at l′ len ws) where
+      (low : at ≤ 29 * 63) (long : length l ≡ max-words) {ws : List ℕ} (alone : ws ≡ words slots (e .calls)) (added : Added max-words l at l′ len ws) where
     inline : Appended l at l′ len (words slots (e .calls))
     inline = put l at l′ len (words slots (e .calls)) long (omega (arith, words-size (e .calls))) (rw alone at added)
 
@@ -286,19 +287,19 @@ module _ (slots : ℕ) where
   after-size e helper n l (inl a) None t = rw a (omega (arith, size-append slots (e .calls) []))
   after-size e helper n l (inr a) None t = rw (a .0, a .1) (a .2)
 
-  turn-size : (h : Host) (pc k : ℕ) (f : Fetched) → size slots ((turn h pc k f) .calls) ≤ most ((turn h pc k f) .outcome)
+  turn-size : (h : Host) (pc k : ℕ) → k < 65536 → (f : Fetched) → size slots ((turn h pc k f) .calls) ≤ most ((turn h pc k f) .outcome)
   unfolding turn instr16-turn instr-turn most flatten
-  turn-size h pc k Missing = omega arith
-  turn-size h pc k (Half w) =
+  turn-size h pc k b Missing = omega arith
+  turn-size h pc k b (Half w) =
       let e = emit-native-instr16 (h .ebreak) pc w in
-      after-size e (emit-native-term-helper16 h pc w k) 2 (instr16-size slots (h .ebreak) pc w .within) (apart16 h pc w k) (e .flow) refl
-  turn-size h pc k (Word w) =
+      after-size e (emit-native-term-helper16 h pc w k) 2 (instr16-size slots (h .ebreak) pc w .within) (apart16 h pc w k b) (e .flow) refl
+  turn-size h pc k b (Word w) =
       let e = emit-native-instr pc w (decode32 w) in
       after-size e (emit-native-term-helper32 h pc w (decode32 w) k) 4 (instr-size slots pc w (decode32 w) .within)
-      (apart32 h pc w (decode32 w) k (omega arith)) (e .flow) refl
+      (apart32 h pc w (decode32 w) k b (omega arith)) (e .flow) refl
 
-  pub turn-words : (h : Host) (pc k : ℕ) (f : Fetched) → length (words slots ((turn h pc k f) .calls)) ≤ most ((turn h pc k f) .outcome)
-  turn-words h pc k f = omega (arith, words-size ((turn h pc k f) .calls), turn-size h pc k f)
+  pub turn-words : (h : Host) (pc k : ℕ) → k < 65536 → (f : Fetched) → length (words slots ((turn h pc k f) .calls)) ≤ most ((turn h pc k f) .outcome)
+  turn-words h pc k b f = omega (arith, words-size ((turn h pc k f) .calls), turn-size h pc k b f)
 
   -- nothing behind the first n of l
   pub lacking : (l : List ℕ) (n : ℕ) → length l ≡ max-words → n ≤ max-words → TurnedOf slots (turned [] 0 Lack) l n l (record { len = n; size = 0; outcome = Lack })

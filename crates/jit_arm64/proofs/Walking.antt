@@ -85,7 +85,9 @@ module _ {h : Host} {guest : List ℕ} {start limit : ℕ} {l : List ℕ} {len i
     added = t .appended .holds ∙ ap (λ (ws : List ℕ). ws ++ words (h .slots) (this .calls)) (v .holds) ∙ sym (words-append (h .slots) (v .calls) (this .calls))
 
     at-most : (o : Outcome) → r .outcome ≡ o → r .len ≤ len + most o
-    at-most o e = rw (← e, t .outcome) (omega (arith, t .appended .len, turn-words (h .slots) h (add start i) n (fetch (add start i) guest i)))
+    at-most o e =
+        let u = v .upto in
+        rw (← e, t .outcome) (omega (arith, t .appended .len, turn-words (h .slots) h (add start i) n (omega arith) (fetch (add start i) guest i)))
 
     pub size-4 : r .size ≤ 4
     size-4 = rw (t .size) (turn-length h (add start i) n (fetch (add start i) guest i))

@@ -166,7 +166,7 @@ pub record TurnedOf (slots : ℕ) (t : Turn) (l : List ℕ) (n : ℕ) (l′ : Li
 
 -- the most words of all instructions: 29 for each, or a helper's behind 63 others
 unfoldable pub most-walked : Stop → ℕ
-most-walked Helper = 29 * 63 + 33
+most-walked Helper = 29 * 63 + 30
 most-walked Limit = 29 * max-steps
 most-walked Ended = 29 * max-steps
 most-walked Uncovered = 29 * max-steps

@@ -2,12 +2,12 @@
 ghost use mathlib.Core.Path.{_≡_};
 ghost use Prim.Native.Nat.{ℕ, _+_, _*_, _≤_, min};
 ghost use lib.ListN.{length};
-ghost use Rattle.a64.specs.Emitter.{max-words};
+ghost use Rattle.a64.specs.Emitter.{max-words, held, emitted-all};
 ghost use Rattle.emit_native.specs.Calls as C;
 ghost use Rattle.emit_native.specs.Decode.{decode32};
 ghost use Rattle.emit_native.specs.TermHelper.{emit-native-term-helper16, emit-native-term-helper32};
 ghost use Rattle.fetch_window.specs.Window.{index};
-ghost use Rattle.jit_arm64.specs.Block.{max-steps, fetch, instr16-turn, instr-turn, help-turn, turn, none-outcome, walk, return-calls, next-calls, end-calls, whole-walk, most-walked, Appended, TurnedOf, WalkedOf, BlockOf};
+ghost use Rattle.jit_arm64.specs.Block.{max-steps, fetch, instr16-turn, instr-turn, help-turn, turn, none-outcome, walk, return-calls, next-calls, end-calls, whole-walk, TurnedOf, WalkedOf, BlockOf};
 use crate::fetch::Fetched;
 use crate::fetch::fetch;
 use a64::A64Emitter;
@@ -82,7 +82,7 @@ fn help16(
     emitted: u32,
     instr: u16,
 ) -> Turned
-    requires { ⌜ (length (now words) ≡ max-words) × (host .slots ≤ 32512) × (at + length (C.words (host .slots) (emit-native-term-helper16 host pc instr emitted .calls)) ≤ max-words) ⌝ }
+    requires { ⌜ (length (now words) ≡ max-words) × (host .slots ≤ 32512) × (at + length (C.words (host .slots) (emit-native-term-helper16 host pc instr emitted .calls)) ≤ max-words) × (emitted ≤ max-steps) ⌝ }
     ensures { λ r. ⌜ TurnedOf (host .slots) (help-turn (emit-native-term-helper16 host pc instr emitted) 2) (now (words .entry)) at (now (words .exit)) r ⌝ }
 {
     let out = term_helper::emit_native_term_helper16(A64Emitter::new(), host, pc, instr, emitted);
@@ -106,7 +106,7 @@ fn help32(
     instr: u32,
     d: Decoded32,
 ) -> Turned
-    requires { ⌜ (length (now words) ≡ max-words) × (host .slots ≤ 32512) × (d ≡ decode32 instr) × (at + length (C.words (host .slots) (emit-native-term-helper32 host pc instr (decode32 instr) emitted .calls)) ≤ max-words) ⌝ }
+    requires { ⌜ (length (now words) ≡ max-words) × (host .slots ≤ 32512) × (d ≡ decode32 instr) × (at + length (C.words (host .slots) (emit-native-term-helper32 host pc instr (decode32 instr) emitted .calls)) ≤ max-words) × (emitted ≤ max-steps) ⌝ }
     ensures { λ r. ⌜ TurnedOf (host .slots) (help-turn (emit-native-term-helper32 host pc instr (decode32 instr) emitted) 4) (now (words .entry)) at (now (words .exit)) r ⌝ }
 {
     let out = term_helper::emit_native_term_helper32(
@@ -136,7 +136,7 @@ fn compile_instr16(
     emitted: u32,
     instr: u16,
 ) -> Turned
-    requires { ⌜ (length (now words) ≡ max-words) × (host .slots ≤ 32512) × (at ≤ 29 * 63) ⌝ }
+    requires { ⌜ (length (now words) ≡ max-words) × (host .slots ≤ 32512) × (at ≤ 29 * 63) × (emitted ≤ max-steps) ⌝ }
     ensures { λ r. ⌜ TurnedOf (host .slots) (instr16-turn host pc emitted instr) (now (words .entry)) at (now (words .exit)) r ⌝ }
 {
     let out = instr16::emit_native_instr16(A64Emitter::new(), host, pc, instr);
@@ -167,7 +167,7 @@ fn compile_instr32(
     emitted: u32,
     instr: u32,
 ) -> Turned
-    requires { ⌜ (length (now words) ≡ max-words) × (host .slots ≤ 32512) × (at ≤ 29 * 63) ⌝ }
+    requires { ⌜ (length (now words) ≡ max-words) × (host .slots ≤ 32512) × (at ≤ 29 * 63) × (emitted ≤ max-steps) ⌝ }
     ensures { λ r. ⌜ TurnedOf (host .slots) (instr-turn host pc emitted instr) (now (words .entry)) at (now (words .exit)) r ⌝ }
 {
     let d = isa::decode::decode32(instr);
@@ -200,7 +200,7 @@ fn compile_instr(
     host: Host,
     emitted: u32,
 ) -> Turned
-    requires { ⌜ (length (now words) ≡ max-words) × (host .slots ≤ 32512) × (at ≤ 29 * 63) ⌝ }
+    requires { ⌜ (length (now words) ≡ max-words) × (host .slots ≤ 32512) × (at ≤ 29 * 63) × (emitted ≤ max-steps) ⌝ }
     ensures { λ r. ⌜ TurnedOf (host .slots) (turn host pc emitted (fetch pc (now (guest .entry)) (index start pc))) (now (words .entry)) at (now (words .exit)) r ⌝ }
 {
     let found = fetch(guest, start, pc);
@@ -256,34 +256,31 @@ fn walk(words: &mut [u32; MAX_WORDS], guest: &[u8], start: u64, limit: u32, host
 }
 
 // The count into X1, RET.
-fn emit_return(words: &mut [u32; MAX_WORDS], at: usize, count: u32) -> usize
-    requires { ⌜ (length (now words) ≡ max-words) × (at + 2 ≤ max-words) × (count ≤ max-steps) ⌝ }
-    ensures { λ r. ⌜ ((slots : ℕ) → Appended (now (words .entry)) at (now (words .exit)) r (C.words slots (return-calls count))) ⌝ }
+fn emit_return(em: A64Emitter, count: u32) -> A64Emitter
+    ensures { λ r. ⌜ ((slots : ℕ) → held r ≡ emitted-all (held em) (C.groups slots (return-calls count))) ⌝ }
 {
-    let n = a64::mov_imm64_at(words, at, 1, count as u64);
-    a64::emit_at(words, n, A64Emitter::ret())
+    let em = em.mov_imm64(1, count as u64);
+    em.emit(A64Emitter::ret())
 }
 
 // The same, behind the next PC into X0.
-fn emit_next(words: &mut [u32; MAX_WORDS], at: usize, pc: u64, count: u32) -> usize
-    requires { ⌜ (length (now words) ≡ max-words) × (at + 6 ≤ max-words) × (count ≤ max-steps) ⌝ }
-    ensures { λ r. ⌜ ((slots : ℕ) → Appended (now (words .entry)) at (now (words .exit)) r (C.words slots (next-calls pc count))) ⌝ }
+fn emit_next(em: A64Emitter, pc: u64, count: u32) -> A64Emitter
+    ensures { λ r. ⌜ ((slots : ℕ) → held r ≡ emitted-all (held em) (C.groups slots (next-calls pc count))) ⌝ }
 {
-    let n = a64::mov_imm64_at(words, at, 0, pc);
-    emit_return(words, n, count)
+    let em = em.mov_imm64(0, pc);
+    emit_return(em, count)
 }
 
 // The end of a block, by why the walk stopped.
-fn emit_end(words: &mut [u32; MAX_WORDS], at: usize, stop: Stop, pc: u64, count: u32) -> usize
-    requires { ⌜ (length (now words) ≡ max-words) × (at ≤ most-walked stop) × (count ≤ max-steps) ⌝ }
-    ensures { λ r. ⌜ ((slots : ℕ) → Appended (now (words .entry)) at (now (words .exit)) r (C.words slots (end-calls stop pc count))) ⌝ }
+fn emit_end(em: A64Emitter, stop: Stop, pc: u64, count: u32) -> A64Emitter
+    ensures { λ r. ⌜ ((slots : ℕ) → held r ≡ emitted-all (held em) (C.groups slots (end-calls stop pc count))) ⌝ }
 {
     match stop {
-        Stop::Helper => at,
-        Stop::Ended => emit_return(words, at, count),
-        Stop::Limit => emit_next(words, at, pc, count),
-        Stop::Uncovered => emit_next(words, at, pc, count),
-        Stop::NotFetched => emit_next(words, at, pc, count),
+        Stop::Helper => em,
+        Stop::Ended => emit_return(em, count),
+        Stop::Limit => emit_next(em, pc, count),
+        Stop::Uncovered => emit_next(em, pc, count),
+        Stop::NotFetched => emit_next(em, pc, count),
     }
 }
 
@@ -308,6 +305,7 @@ pub fn compile_native_block(
     let count = walked.count;
     let stop = walked.stop;
     let next = std::num::wrapping_add_u64(pc, walked.index);
-    let len = emit_end(words, walked.len, stop, next, count);
+    let end = emit_end(A64Emitter::new(), stop, next, count);
+    let len = a64::append(words, walked.len, end);
     NativeBlock { len, count, stop }
 }

@@ -3,7 +3,7 @@ use native.Mathlib.Omega.{arith}
 use Prim.Native.Nat.{_+_, _≤_}
 use mathlib.Core.Path.{_≡_, sym}
 use lib.ListN.{length, take, length-take}
-use Rattle.a64.specs.Emitter.{max-words, constant, encoded}
+use Rattle.a64.specs.Emitter.{instr-words, constant, encoded}
 use Rattle.a64.proofs.Emission.{kept, length-encoded, constant-one, constant-length}
 use Rattle.a64.proofs.mov_imm64_at.Statement.{statement}
 use Rattle.a64.proofs.mov_imm64_at.Tie as tie
@@ -17,7 +17,7 @@ returns c =
     let l = constant-length (s .rd) (s .val) _ _ _ u1 u2 u3 in
     let ws = encoded (constant (s .rd) (s .val)) in
     let m : length ws ≡ length (constant (s .rd) (s .val)) = length-encoded (constant (s .rd) (s .val)) in
-    record { long = search needs; holds = sym (kept (s .words .now) (s .at) ws (search needs) (omega arith)); room = λ h. h }
+    record { long = search needs; holds = sym (kept instr-words (s .words .now) (s .at) ws (search needs) (omega arith)); room = λ h. h }
 
 returns-2 : tie.Need-returns-2
 returns-2 c =
@@ -29,7 +29,7 @@ returns-2 c =
     let l = constant-length (s .rd) (s .val) _ _ _ u1 u2 u3 in
     let h = take (s .at) (s .words .now) in
     let k = length-take (s .at) (s .words .now) in
-    let f : length h + length (constant (s .rd) (s .val)) ≤ max-words = omega arith in
+    let f : length h + length (constant (s .rd) (s .val)) ≤ instr-words = omega arith in
     record {
       long = c .upper-at3 .ensures .long;
       holds =

@@ -5,7 +5,7 @@ use Rattle.a64.proofs.upper_at.Statement.{statement}
 use Rattle.a64.proofs.upper_at.Tie as tie
 
 returns : tie.Need-returns
-returns c = record { long = c .before .pre .0; holds = rw (upper-none _ _ _ (c .if1 .taken)) (sym (emitted-none _)); room = λ h. h }
+returns c = record { long = c .before .pre .0; holds = rw (upper-none _ _ _ (c .if1 .taken)) (sym (emitted-none _ _)); room = λ h. h }
 
 returns-2 : tie.Need-returns-2
 returns-2 c = rw (upper-some _ _ _ (c .before .before .if1 .left)) (c .emit-at .ensures)

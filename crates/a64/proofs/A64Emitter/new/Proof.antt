@@ -1,10 +1,10 @@
 use borrow.Author.Needs.{needs}
-use Rattle.a64.specs.Emitter.{held}
+use Rattle.a64.specs.Emitter.{block-words}
 use Rattle.a64.proofs.A64Emitter.new.Statement.{statement}
 use Rattle.a64.proofs.A64Emitter.new.Tie as tie
 
 returns : tie.Need-returns
-unfolding held
+unfolding block-words
 returns c = search needs
 
 pub new-spec : {M : Type 1} → statement M

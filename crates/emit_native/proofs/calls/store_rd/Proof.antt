@@ -1,35 +1,31 @@
-use Rattle.emit_native.specs.Calls.{store-rd}
-use mathlib.Core.Path.{refl}
-use borrow.Author.Tests.{eq-eqb, ne-eqb}
+use Prim.Native.Nat.{ℕ}
+use mathlib.Core.Path.{_≡_, refl, sym}
+use mathlib.Core.Bool.{Bool, true, false, not}
+use mathlib.Core.List.{List}
+use lib.Dec.{eqb}
 use borrow.Author.Needs.{needs}
+use Rattle.a64.specs.Forms.{encode}
+use Rattle.a64.specs.Emitter.{emitted, emitted-if, emitted-all}
+use Rattle.a64.proofs.Emission.{emitted-none}
+use Rattle.emit_native.specs.declared.EmitFlow.{EmitFlow}
+use Rattle.emit_native.specs.declared.EmitFlow.the-variants.{Continue, Terminate, None}
+use Rattle.emit_native.specs.Calls.{groups, reg-off, str-x, stores, store-rd}
+use Rattle.emit_native.proofs.Size.{by}
 use Rattle.emit_native.proofs.calls.store_rd.Statement.{statement}
 use Rattle.emit_native.proofs.calls.store_rd.Tie as tie
 
+-- the store as one word that is written where it is wanted
+chosen : (h : List ℕ) (slots : ℕ) (f : EmitFlow) (rd : ℕ)
+    → emitted h (emitted-if (stores f rd) (encode (str-x 11 0 (reg-off slots rd)))) ≡ emitted-all h (groups slots (store-rd f rd))
+unfolding emitted-if stores store-rd
+chosen h slots Continue rd = by (eqb rd 0) (λ t. rw t (emitted-none _ h)) (λ t. rw t refl)
+chosen h slots Terminate rd = emitted-none _ h
+chosen h slots None rd = emitted-none _ h
+
 returns : tie.Need-returns
-unfolding store-rd
-returns c = rw (c .before .enum-told .given .1, eq-eqb _ _ (c .if1 .taken)) (cc, refl)
-
-returns-2 : tie.Need-returns-2
-unfolding store-rd
-returns-2 c = rw (c .before .before .enum-told .given .1, ne-eqb _ _ (c .before .if1 .left)) (cc, refl)
-
-returns-3 : tie.Need-returns-3
-unfolding store-rd
-returns-3 c = rw (c .enum-told2 .given .1) (cc, refl)
-
-returns-4 : tie.Need-returns-4
-unfolding store-rd
-returns-4 c = rw (c .enum-told3 .given .1) (cc, refl)
+returns c =
+    (rw (c .emit-if .ensures, c .before .str-x .ensures, c .before .before .reg-off .ensures .0, c .before .before .before .stores .ensures) (chosen _ _ _ _), refl)
 
 pub store-rd-spec : {M : Type 1} → statement M
 store-rd-spec =
-    tie.close
-    (tie.spec
-    (λ c. search needs)
-    returns
-    (λ c κs. search needs)
-    (λ c. search needs)
-    (λ c. search needs)
-    returns-2
-    returns-3
-    returns-4)
+    tie.close (tie.spec (λ c κs. search needs) (λ c κs. search needs) (λ c κs. search needs) (λ c κs. search needs) returns)

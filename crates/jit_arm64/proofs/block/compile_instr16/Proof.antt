@@ -16,7 +16,7 @@ help-requires c κs =
     let e = emit-native-instr16 (a .host .ebreak) (a .pc) (a .instr) in
     let few = instr16-size (a .host .slots) (a .host .ebreak) (a .pc) (a .instr) .within in
     let w = alone (a .host .slots) _ e _ (c .before .before .before .before .before .before .before .new .ensures) (c .before .before .before .before .before .before .emit-native-instr16 .ensures) (omega (arith, few)) in
-    (c .before .before .before .append .ensures .long, s .pre .1, fits (a .host .slots) e (emit-native-term-helper16 (a .host) (a .pc) (a .instr) (a .emitted)) 2 few (apart16 (a .host .slots) (a .host) (a .pc) (a .instr) (a .emitted)) (s .pre .2) (s .pre .0) w (c .before .before .before .append .ensures))
+    (c .before .before .before .append .ensures .long, s .pre .1, fits (a .host .slots) e (emit-native-term-helper16 (a .host) (a .pc) (a .instr) (a .emitted)) 2 few (apart16 (a .host .slots) (a .host) (a .pc) (a .instr) (a .emitted) (omega (arith, s .pre .3))) (s .pre .2) (s .pre .0) w (c .before .before .before .append .ensures), s .pre .3)
 
 returns : tie.Need-returns
 unfolding instr16-turn
@@ -26,7 +26,7 @@ returns c =
     let e = emit-native-instr16 (a .host .ebreak) (a .pc) (a .instr) in
     let few = instr16-size (a .host .slots) (a .host .ebreak) (a .pc) (a .instr) .within in
     let w = alone (a .host .slots) _ e _ (c .before .before .before .before .before .before .new .ensures) (c .before .before .before .before .before .emit-native-instr16 .ensures) (omega (arith, few)) in
-    goes-on (a .host .slots) e (emit-native-term-helper16 (a .host) (a .pc) (a .instr) (a .emitted)) 2 few (apart16 (a .host .slots) (a .host) (a .pc) (a .instr) (a .emitted)) (s .pre .2) (s .pre .0) w (c .before .before .append .ensures) (sym ((c .before .before .before .before .before .emit-native-instr16 .ensures) .flow) ∙ c .enum-told .given .1)
+    goes-on (a .host .slots) e (emit-native-term-helper16 (a .host) (a .pc) (a .instr) (a .emitted)) 2 few (apart16 (a .host .slots) (a .host) (a .pc) (a .instr) (a .emitted) (omega (arith, s .pre .3))) (s .pre .2) (s .pre .0) w (c .before .before .append .ensures) (sym ((c .before .before .before .before .before .emit-native-instr16 .ensures) .flow) ∙ c .enum-told .given .1)
 
 returns-2 : tie.Need-returns-2
 unfolding instr16-turn
@@ -36,7 +36,7 @@ returns-2 c =
     let e = emit-native-instr16 (a .host .ebreak) (a .pc) (a .instr) in
     let few = instr16-size (a .host .slots) (a .host .ebreak) (a .pc) (a .instr) .within in
     let w = alone (a .host .slots) _ e _ (c .before .before .before .before .before .before .new .ensures) (c .before .before .before .before .before .emit-native-instr16 .ensures) (omega (arith, few)) in
-    ends (a .host .slots) e (emit-native-term-helper16 (a .host) (a .pc) (a .instr) (a .emitted)) 2 few (apart16 (a .host .slots) (a .host) (a .pc) (a .instr) (a .emitted)) (s .pre .2) (s .pre .0) w (c .before .before .append .ensures) (sym ((c .before .before .before .before .before .emit-native-instr16 .ensures) .flow) ∙ c .enum-told2 .given .1)
+    ends (a .host .slots) e (emit-native-term-helper16 (a .host) (a .pc) (a .instr) (a .emitted)) 2 few (apart16 (a .host .slots) (a .host) (a .pc) (a .instr) (a .emitted) (omega (arith, s .pre .3))) (s .pre .2) (s .pre .0) w (c .before .before .append .ensures) (sym ((c .before .before .before .before .before .emit-native-instr16 .ensures) .flow) ∙ c .enum-told2 .given .1)
 
 returns-3 : tie.Need-returns-3
 unfolding instr16-turn
@@ -46,7 +46,7 @@ returns-3 c =
     let e = emit-native-instr16 (a .host .ebreak) (a .pc) (a .instr) in
     let few = instr16-size (a .host .slots) (a .host .ebreak) (a .pc) (a .instr) .within in
     let w = alone (a .host .slots) _ e _ (c .before .before .before .before .before .before .before .before .new .ensures) (c .before .before .before .before .before .before .before .emit-native-instr16 .ensures) (omega (arith, few)) in
-    helps (a .host .slots) e (emit-native-term-helper16 (a .host) (a .pc) (a .instr) (a .emitted)) 2 few (apart16 (a .host .slots) (a .host) (a .pc) (a .instr) (a .emitted)) (s .pre .2) (s .pre .0) w (c .before .before .before .before .append .ensures) (sym ((c .before .before .before .before .before .before .before .emit-native-instr16 .ensures) .flow) ∙ c .before .before .enum-told3 .given .1) (c .help16 .ensures)
+    helps (a .host .slots) e (emit-native-term-helper16 (a .host) (a .pc) (a .instr) (a .emitted)) 2 few (apart16 (a .host .slots) (a .host) (a .pc) (a .instr) (a .emitted) (omega (arith, s .pre .3))) (s .pre .2) (s .pre .0) w (c .before .before .before .before .append .ensures) (sym ((c .before .before .before .before .before .before .before .emit-native-instr16 .ensures) .flow) ∙ c .before .before .enum-told3 .given .1) (c .help16 .ensures)
 
 pub compile-instr16-spec : {M : Type 1} → statement M
 compile-instr16-spec =

@@ -17,7 +17,7 @@ help-requires c κs =
     let e = emit-native-instr (a .pc) (a .instr) (decode32 (a .instr)) in
     let few = instr-size (a .host .slots) (a .pc) (a .instr) (decode32 (a .instr)) .within in
     let w = alone (a .host .slots) _ e _ (c .before .before .before .before .before .before .before .new .ensures) (rw (c .before .before .before .before .before .before .before .before .decode32 .ensures) at (c .before .before .before .before .before .before .emit-native-instr .ensures)) (omega (arith, few)) in
-    (c .before .before .before .append .ensures .long, s .pre .1, c .before .before .before .before .before .before .before .before .decode32 .ensures, fits (a .host .slots) e (emit-native-term-helper32 (a .host) (a .pc) (a .instr) (decode32 (a .instr)) (a .emitted)) 4 few (apart32 (a .host .slots) (a .host) (a .pc) (a .instr) (decode32 (a .instr)) (a .emitted) (omega arith)) (s .pre .2) (s .pre .0) w (c .before .before .before .append .ensures))
+    (c .before .before .before .append .ensures .long, s .pre .1, c .before .before .before .before .before .before .before .before .decode32 .ensures, fits (a .host .slots) e (emit-native-term-helper32 (a .host) (a .pc) (a .instr) (decode32 (a .instr)) (a .emitted)) 4 few (apart32 (a .host .slots) (a .host) (a .pc) (a .instr) (decode32 (a .instr)) (a .emitted) (omega (arith, s .pre .3)) (omega arith)) (s .pre .2) (s .pre .0) w (c .before .before .before .append .ensures), s .pre .3)
 
 returns : tie.Need-returns
 unfolding instr-turn
@@ -27,7 +27,7 @@ returns c =
     let e = emit-native-instr (a .pc) (a .instr) (decode32 (a .instr)) in
     let few = instr-size (a .host .slots) (a .pc) (a .instr) (decode32 (a .instr)) .within in
     let w = alone (a .host .slots) _ e _ (c .before .before .before .before .before .before .new .ensures) (rw (c .before .before .before .before .before .before .before .decode32 .ensures) at (c .before .before .before .before .before .emit-native-instr .ensures)) (omega (arith, few)) in
-    goes-on (a .host .slots) e (emit-native-term-helper32 (a .host) (a .pc) (a .instr) (decode32 (a .instr)) (a .emitted)) 4 few (apart32 (a .host .slots) (a .host) (a .pc) (a .instr) (decode32 (a .instr)) (a .emitted) (omega arith)) (s .pre .2) (s .pre .0) w (c .before .before .append .ensures) (sym ((rw (c .before .before .before .before .before .before .before .decode32 .ensures) at (c .before .before .before .before .before .emit-native-instr .ensures)) .flow) ∙ c .enum-told .given .1)
+    goes-on (a .host .slots) e (emit-native-term-helper32 (a .host) (a .pc) (a .instr) (decode32 (a .instr)) (a .emitted)) 4 few (apart32 (a .host .slots) (a .host) (a .pc) (a .instr) (decode32 (a .instr)) (a .emitted) (omega (arith, s .pre .3)) (omega arith)) (s .pre .2) (s .pre .0) w (c .before .before .append .ensures) (sym ((rw (c .before .before .before .before .before .before .before .decode32 .ensures) at (c .before .before .before .before .before .emit-native-instr .ensures)) .flow) ∙ c .enum-told .given .1)
 
 returns-2 : tie.Need-returns-2
 unfolding instr-turn
@@ -37,7 +37,7 @@ returns-2 c =
     let e = emit-native-instr (a .pc) (a .instr) (decode32 (a .instr)) in
     let few = instr-size (a .host .slots) (a .pc) (a .instr) (decode32 (a .instr)) .within in
     let w = alone (a .host .slots) _ e _ (c .before .before .before .before .before .before .new .ensures) (rw (c .before .before .before .before .before .before .before .decode32 .ensures) at (c .before .before .before .before .before .emit-native-instr .ensures)) (omega (arith, few)) in
-    ends (a .host .slots) e (emit-native-term-helper32 (a .host) (a .pc) (a .instr) (decode32 (a .instr)) (a .emitted)) 4 few (apart32 (a .host .slots) (a .host) (a .pc) (a .instr) (decode32 (a .instr)) (a .emitted) (omega arith)) (s .pre .2) (s .pre .0) w (c .before .before .append .ensures) (sym ((rw (c .before .before .before .before .before .before .before .decode32 .ensures) at (c .before .before .before .before .before .emit-native-instr .ensures)) .flow) ∙ c .enum-told2 .given .1)
+    ends (a .host .slots) e (emit-native-term-helper32 (a .host) (a .pc) (a .instr) (decode32 (a .instr)) (a .emitted)) 4 few (apart32 (a .host .slots) (a .host) (a .pc) (a .instr) (decode32 (a .instr)) (a .emitted) (omega (arith, s .pre .3)) (omega arith)) (s .pre .2) (s .pre .0) w (c .before .before .append .ensures) (sym ((rw (c .before .before .before .before .before .before .before .decode32 .ensures) at (c .before .before .before .before .before .emit-native-instr .ensures)) .flow) ∙ c .enum-told2 .given .1)
 
 returns-3 : tie.Need-returns-3
 unfolding instr-turn
@@ -47,7 +47,7 @@ returns-3 c =
     let e = emit-native-instr (a .pc) (a .instr) (decode32 (a .instr)) in
     let few = instr-size (a .host .slots) (a .pc) (a .instr) (decode32 (a .instr)) .within in
     let w = alone (a .host .slots) _ e _ (c .before .before .before .before .before .before .before .before .new .ensures) (rw (c .before .before .before .before .before .before .before .before .before .decode32 .ensures) at (c .before .before .before .before .before .before .before .emit-native-instr .ensures)) (omega (arith, few)) in
-    helps (a .host .slots) e (emit-native-term-helper32 (a .host) (a .pc) (a .instr) (decode32 (a .instr)) (a .emitted)) 4 few (apart32 (a .host .slots) (a .host) (a .pc) (a .instr) (decode32 (a .instr)) (a .emitted) (omega arith)) (s .pre .2) (s .pre .0) w (c .before .before .before .before .append .ensures) (sym ((rw (c .before .before .before .before .before .before .before .before .before .decode32 .ensures) at (c .before .before .before .before .before .before .before .emit-native-instr .ensures)) .flow) ∙ c .before .before .enum-told3 .given .1) (c .help32 .ensures)
+    helps (a .host .slots) e (emit-native-term-helper32 (a .host) (a .pc) (a .instr) (decode32 (a .instr)) (a .emitted)) 4 few (apart32 (a .host .slots) (a .host) (a .pc) (a .instr) (decode32 (a .instr)) (a .emitted) (omega (arith, s .pre .3)) (omega arith)) (s .pre .2) (s .pre .0) w (c .before .before .before .before .append .ensures) (sym ((rw (c .before .before .before .before .before .before .before .before .before .decode32 .ensures) at (c .before .before .before .before .before .before .before .emit-native-instr .ensures)) .flow) ∙ c .before .before .enum-told3 .given .1) (c .help32 .ensures)
 
 pub compile-instr32-spec : {M : Type 1} → statement M
 compile-instr32-spec =

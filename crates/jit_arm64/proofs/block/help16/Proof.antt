@@ -1,3 +1,4 @@
+use native.Mathlib.Omega.{arith}
 use borrow.Author.Needs.{needs}
 use mathlib.Core.Path.{refl, ap, _∙_}
 use Rattle.jit_arm64.specs.Block.{none-outcome}
@@ -11,7 +12,7 @@ returns c =
     let s = c .before .before .before .before .before .before in
     let a = s .args in
     let e = emit-native-term-helper16 (a .host) (a .pc) (a .instr) (a .emitted) in
-    let w = alone (a .host .slots) _ e _ (c .before .before .before .before .before .new .ensures) (c .before .before .before .before .emit-native-term-helper16 .ensures) (helper16-size (a .host .slots) (a .host) (a .pc) (a .instr) (a .emitted)) in
+    let w = alone (a .host .slots) _ e _ (c .before .before .before .before .before .new .ensures) (c .before .before .before .before .emit-native-term-helper16 .ensures) (helper16-size (a .host .slots) (a .host) (a .pc) (a .instr) (a .emitted) (omega (arith, s .pre .3))) in
     record {
       appended = put (a .words .now) (a .at) _ _ _ (s .pre .0) (s .pre .2) (rw w at (c .before .append .ensures));
       size = refl;

@@ -1,3 +1,4 @@
+use native.Mathlib.Omega.{arith}
 use borrow.Author.Needs.{needs}
 use mathlib.Core.Path.{refl, ap, _∙_}
 use Rattle.jit_arm64.specs.Block.{none-outcome}
@@ -13,7 +14,7 @@ returns c =
     let s = c .before .before .before .before .before .before in
     let a = s .args in
     let e = emit-native-term-helper32 (a .host) (a .pc) (a .instr) (decode32 (a .instr)) (a .emitted) in
-    let w = alone (a .host .slots) _ e _ (c .before .before .before .before .before .new .ensures) (rw (c .before .before .before .before .before .before .pre .2) at (c .before .before .before .before .emit-native-term-helper32 .ensures)) (helper32-size (a .host .slots) (a .host) (a .pc) (a .instr) (a .emitted)) in
+    let w = alone (a .host .slots) _ e _ (c .before .before .before .before .before .new .ensures) (rw (c .before .before .before .before .before .before .pre .2) at (c .before .before .before .before .emit-native-term-helper32 .ensures)) (helper32-size (a .host .slots) (a .host) (a .pc) (a .instr) (a .emitted) (omega (arith, s .pre .4))) in
     record {
       appended = put (a .words .now) (a .at) _ _ _ (s .pre .0) (s .pre .3) (rw w at (c .before .append .ensures));
       size = refl;

@@ -18,7 +18,7 @@ compile-instr-requires : tie.Need-compile-instr-requires Inv-loop μ-loop
 compile-instr-requires c κs =
     let v = c .before .before .before .loop .inv in
     let s = c .before .before .before .before .before in
-    (v .long, s .pre .1, omega (arith, s .pre .2, v .room, v .upto, c .before .before .if1 .left))
+    (v .long, s .pre .1, omega (arith, s .pre .2, v .room, v .upto, c .before .before .if1 .left), omega (arith, s .pre .2, v .upto))
 
 add-i : tie.Need-add-i Inv-loop μ-loop
 add-i c =
