@@ -135,7 +135,7 @@ none cs = record { calls = cs; flow = None }
 abbrev pub behind : List Call → Emission → Emission
 behind cs e = record { calls = cs ++ e .calls; flow = e .flow }
 
--- whether it is passed by, or rd is 0
+-- whether `store_rd` writes a word: a `return None` passes it by, and register 0 has none
 unfoldable pub stores : EmitFlow → ℕ → Bool
 stores Continue rd = not (eqb rd 0)
 stores Terminate rd = false

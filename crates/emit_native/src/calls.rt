@@ -9,6 +9,7 @@ ghost use Rattle.emit_native.specs.Calls.{Call, forms, groups, reg-off, 
 use crate::EmitFlow;
 use crate::Emitted;
 use a64::A64Emitter;
+use a64::InstrEmitter;
 
 // Rule 9.
 fn reg_off(slots: u16, n: u8) -> u16
@@ -19,7 +20,7 @@ fn reg_off(slots: u16, n: u8) -> u16
 }
 
 // Guest register n into Xt.
-pub fn load(em: A64Emitter, slots: u16, rt: u8, n: u8) -> A64Emitter
+pub fn load(em: InstrEmitter, slots: u16, rt: u8, n: u8) -> InstrEmitter
     requires { ⌜ (slots ≤ 32512) × (rt < 32) × (n < 32) ⌝ }
     ensures { λ r. ⌜ held r ≡ emitted (held em) (encoded (forms slots (Call.load rt n))) ⌝ }
 {
@@ -27,7 +28,7 @@ pub fn load(em: A64Emitter, slots: u16, rt: u8, n: u8) -> A64Emitter
 }
 
 // Xt into guest register n.
-pub fn store(em: A64Emitter, slots: u16, rt: u8, n: u8) -> A64Emitter
+pub fn store(em: InstrEmitter, slots: u16, rt: u8, n: u8) -> InstrEmitter
     requires { ⌜ (slots ≤ 32512) × (rt < 32) × (n < 32) ⌝ }
     ensures { λ r. ⌜ held r ≡ emitted (held em) (encoded (forms slots (Call.store rt n))) ⌝ }
 {
@@ -35,7 +36,7 @@ pub fn store(em: A64Emitter, slots: u16, rt: u8, n: u8) -> A64Emitter
 }
 
 // Guest registers rs1 and rs2 into X9 and X10.
-pub fn load_both(em: A64Emitter, slots: u16, rs1: u8, rs2: u8) -> A64Emitter
+pub fn load_both(em: InstrEmitter, slots: u16, rs1: u8, rs2: u8) -> InstrEmitter
     requires { ⌜ (slots ≤ 32512) × (rs1 < 32) × (rs2 < 32) ⌝ }
     ensures { λ r. ⌜ held r ≡ emitted-all (held em) (groups slots (Call.load 9 rs1 ∷ Call.load 10 rs2 ∷ [])) ⌝ }
 {
@@ -44,7 +45,7 @@ pub fn load_both(em: A64Emitter, slots: u16, rs1: u8, rs2: u8) -> A64Emitter
 }
 
 // A constant into a guest register that is not 0.
-pub fn mov_reg(em: A64Emitter, slots: u16, rd: u8, val: u64) -> A64Emitter
+pub fn mov_reg(em: InstrEmitter, slots: u16, rd: u8, val: u64) -> InstrEmitter
     requires { ⌜ (slots ≤ 32512) × (rd < 32) ⌝ }
     ensures { λ r. ⌜ held r ≡ emitted-all (held em) (groups slots (if-not-0 rd (Call.mov-imm64 11 val ∷ Call.store 11 rd ∷ []))) ⌝ }
 {
@@ -56,7 +57,7 @@ pub fn mov_reg(em: A64Emitter, slots: u16, rd: u8, val: u64) -> A64Emitter
 }
 
 // Guest register rs and a constant into X9 and X10, the word of a form on them, and X11 into guest register rd.
-pub fn with_imm(em: A64Emitter, slots: u16, rs: u8, imm: u64, w: u32, rd: u8) -> A64Emitter
+pub fn with_imm(em: InstrEmitter, slots: u16, rs: u8, imm: u64, w: u32, rd: u8) -> InstrEmitter
     requires { ⌜ (slots ≤ 32512) × (rs < 32) × (rd < 32) ⌝ }
     ensures { λ r. ⌜ ((f : Form) → w ≡ encode f → held r ≡ emitted-all (held em) (groups slots (Call.load 9 rs ∷ Call.mov-imm64 10 imm ∷ Call.emit f ∷ Call.store 11 rd ∷ []))) ⌝ }
 {
@@ -90,7 +91,7 @@ pub fn store_rd(out: Emitted, slots: u16, rd: u8) -> Emitted
 }
 
 // `Some(EmitFlow::Continue)`, `Some(EmitFlow::Terminate)` and `None`.
-pub fn go_on(em: A64Emitter) -> Emitted
+pub fn go_on(em: InstrEmitter) -> Emitted
     ensures { λ r. ⌜ (r .em ≡ em) × (r .flow ≡ EmitFlow.Continue) ⌝ }
 {
     Emitted {
@@ -99,7 +100,7 @@ pub fn go_on(em: A64Emitter) -> Emitted
     }
 }
 
-pub fn terminate(em: A64Emitter) -> Emitted
+pub fn terminate(em: InstrEmitter) -> Emitted
     ensures { λ r. ⌜ (r .em ≡ em) × (r .flow ≡ EmitFlow.Terminate) ⌝ }
 {
     Emitted {
@@ -108,7 +109,7 @@ pub fn terminate(em: A64Emitter) -> Emitted
     }
 }
 
-pub fn none(em: A64Emitter) -> Emitted
+pub fn none(em: InstrEmitter) -> Emitted
     ensures { λ r. ⌜ (r .em ≡ em) × (r .flow ≡ EmitFlow.None) ⌝ }
 {
     Emitted {

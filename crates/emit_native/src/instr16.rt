@@ -16,6 +16,7 @@ use crate::calls::store;
 use crate::calls::terminate;
 use crate::calls::with_imm;
 use a64::A64Emitter;
+use a64::InstrEmitter;
 
 const C_EQ: u8 = 0x0;
 
@@ -50,7 +51,7 @@ fn high_prime(instr: u16) -> u8
     (instr / 128 % 8 + 8) as u8
 }
 
-fn emit_addi4spn(em: A64Emitter, slots: u16, instr: u16) -> Emitted
+fn emit_addi4spn(em: InstrEmitter, slots: u16, instr: u16) -> Emitted
     requires { ⌜ slots ≤ 32512 ⌝ }
     ensures { λ r. ⌜ Emits slots (held em) (addi4spn instr) r ⌝ }
 {
@@ -62,7 +63,7 @@ fn emit_addi4spn(em: A64Emitter, slots: u16, instr: u16) -> Emitted
     go_on(with_imm(em, slots, 2, imm, w, low_prime(instr)))
 }
 
-fn emit_quadrant_0(em: A64Emitter, slots: u16, instr: u16) -> Emitted
+fn emit_quadrant_0(em: InstrEmitter, slots: u16, instr: u16) -> Emitted
     requires { ⌜ slots ≤ 32512 ⌝ }
     ensures { λ r. ⌜ Emits slots (held em) (quadrant-0 instr) r ⌝ }
 {
@@ -73,7 +74,7 @@ fn emit_quadrant_0(em: A64Emitter, slots: u16, instr: u16) -> Emitted
 }
 
 // C.ADDI and C.NOP.
-fn emit_c_addi(em: A64Emitter, slots: u16, instr: u16) -> Emitted
+fn emit_c_addi(em: InstrEmitter, slots: u16, instr: u16) -> Emitted
     requires { ⌜ slots ≤ 32512 ⌝ }
     ensures { λ r. ⌜ Emits slots (held em) (c-addi instr) r ⌝ }
 {
@@ -81,11 +82,13 @@ fn emit_c_addi(em: A64Emitter, slots: u16, instr: u16) -> Emitted
     if rd == 0 {
         return go_on(em);
     }
-    let w = A64Emitter::add_x(11, 9, 10);
-    go_on(with_imm(em, slots, rd, isa::decode::imm_ci(instr), w, rd))
+    let em = load(em, slots, 9, rd);
+    let em = em.mov_imm64(10, isa::decode::imm_ci(instr));
+    let em = em.emit(A64Emitter::add_x(11, 9, 10));
+    go_on(store(em, slots, 11, rd))
 }
 
-fn emit_c_addiw(em: A64Emitter, slots: u16, instr: u16) -> Emitted
+fn emit_c_addiw(em: InstrEmitter, slots: u16, instr: u16) -> Emitted
     requires { ⌜ slots ≤ 32512 ⌝ }
     ensures { λ r. ⌜ Emits slots (held em) (c-addiw instr) r ⌝ }
 {
@@ -100,14 +103,14 @@ fn emit_c_addiw(em: A64Emitter, slots: u16, instr: u16) -> Emitted
     go_on(store(em, slots, 11, rd))
 }
 
-fn emit_c_li(em: A64Emitter, slots: u16, instr: u16) -> Emitted
+fn emit_c_li(em: InstrEmitter, slots: u16, instr: u16) -> Emitted
     requires { ⌜ slots ≤ 32512 ⌝ }
     ensures { λ r. ⌜ Emits slots (held em) (c-li instr) r ⌝ }
 {
     go_on(mov_reg(em, slots, rd_of(instr), isa::decode::imm_ci(instr)))
 }
 
-fn emit_c_addi16sp(em: A64Emitter, slots: u16, instr: u16) -> Emitted
+fn emit_c_addi16sp(em: InstrEmitter, slots: u16, instr: u16) -> Emitted
     requires { ⌜ slots ≤ 32512 ⌝ }
     ensures { λ r. ⌜ Emits slots (held em) (c-addi16sp instr) r ⌝ }
 {
@@ -119,7 +122,7 @@ fn emit_c_addi16sp(em: A64Emitter, slots: u16, instr: u16) -> Emitted
     go_on(with_imm(em, slots, 2, imm, w, 2))
 }
 
-fn emit_c_lui(em: A64Emitter, slots: u16, instr: u16) -> Emitted
+fn emit_c_lui(em: InstrEmitter, slots: u16, instr: u16) -> Emitted
     requires { ⌜ slots ≤ 32512 ⌝ }
     ensures { λ r. ⌜ Emits slots (held em) (c-lui instr) r ⌝ }
 {
@@ -135,7 +138,7 @@ fn emit_c_lui(em: A64Emitter, slots: u16, instr: u16) -> Emitted
     go_on(store(em, slots, 11, rd))
 }
 
-fn emit_c_srli(em: A64Emitter, slots: u16, instr: u16) -> Emitted
+fn emit_c_srli(em: InstrEmitter, slots: u16, instr: u16) -> Emitted
     requires { ⌜ slots ≤ 32512 ⌝ }
     ensures { λ r. ⌜ Emits slots (held em) (c-srli instr) r ⌝ }
 {
@@ -144,7 +147,7 @@ fn emit_c_srli(em: A64Emitter, slots: u16, instr: u16) -> Emitted
     go_on(with_imm(em, slots, rs1, isa::decode::shamt_c(instr), w, rs1))
 }
 
-fn emit_c_srai(em: A64Emitter, slots: u16, instr: u16) -> Emitted
+fn emit_c_srai(em: InstrEmitter, slots: u16, instr: u16) -> Emitted
     requires { ⌜ slots ≤ 32512 ⌝ }
     ensures { λ r. ⌜ Emits slots (held em) (c-srai instr) r ⌝ }
 {
@@ -153,7 +156,7 @@ fn emit_c_srai(em: A64Emitter, slots: u16, instr: u16) -> Emitted
     go_on(with_imm(em, slots, rs1, isa::decode::shamt_c(instr), w, rs1))
 }
 
-fn emit_c_andi(em: A64Emitter, slots: u16, instr: u16) -> Emitted
+fn emit_c_andi(em: InstrEmitter, slots: u16, instr: u16) -> Emitted
     requires { ⌜ slots ≤ 32512 ⌝ }
     ensures { λ r. ⌜ Emits slots (held em) (c-andi instr) r ⌝ }
 {
@@ -163,7 +166,7 @@ fn emit_c_andi(em: A64Emitter, slots: u16, instr: u16) -> Emitted
 }
 
 // C.SUB, C.XOR, C.OR, C.AND.
-fn emit_c_alu_base(em: A64Emitter, slots: u16, alu2: u16, rs1: u8) -> Emitted
+fn emit_c_alu_base(em: InstrEmitter, slots: u16, alu2: u16, rs1: u8) -> Emitted
     requires { ⌜ (slots ≤ 32512) × (rs1 < 32) ⌝ }
     ensures { λ r. ⌜ Emits slots (held em) (c-alu 0 alu2 rs1) r ⌝ }
 {
@@ -177,7 +180,7 @@ fn emit_c_alu_base(em: A64Emitter, slots: u16, alu2: u16, rs1: u8) -> Emitted
 }
 
 // C.SUBW and C.ADDW.
-fn emit_c_alu_word(em: A64Emitter, slots: u16, alu2: u16, rs1: u8) -> Emitted
+fn emit_c_alu_word(em: InstrEmitter, slots: u16, alu2: u16, rs1: u8) -> Emitted
     requires { ⌜ (slots ≤ 32512) × (rs1 < 32) ⌝ }
     ensures { λ r. ⌜ Emits slots (held em) (c-alu 1 alu2 rs1) r ⌝ }
 {
@@ -196,7 +199,7 @@ fn emit_c_alu_word(em: A64Emitter, slots: u16, alu2: u16, rs1: u8) -> Emitted
     }
 }
 
-fn emit_c_alu(em: A64Emitter, slots: u16, subop: u16, alu2: u16, rs1: u8) -> Emitted
+fn emit_c_alu(em: InstrEmitter, slots: u16, subop: u16, alu2: u16, rs1: u8) -> Emitted
     requires { ⌜ (slots ≤ 32512) × (rs1 < 32) ⌝ }
     ensures { λ r. ⌜ Emits slots (held em) (c-alu subop alu2 rs1) r ⌝ }
 {
@@ -208,7 +211,7 @@ fn emit_c_alu(em: A64Emitter, slots: u16, subop: u16, alu2: u16, rs1: u8) -> Emi
 }
 
 // The arms of `match funct2`.
-fn emit_c_group(em: A64Emitter, slots: u16, instr: u16) -> Emitted
+fn emit_c_group(em: InstrEmitter, slots: u16, instr: u16) -> Emitted
     requires { ⌜ slots ≤ 32512 ⌝ }
     ensures { λ r. ⌜ Emits slots (held em) (c-group instr) r ⌝ }
 {
@@ -225,7 +228,7 @@ fn emit_c_group(em: A64Emitter, slots: u16, instr: u16) -> Emitted
     }
 }
 
-fn emit_c_j(em: A64Emitter, pc: u64, instr: u16, slots: u16) -> Emitted
+fn emit_c_j(em: InstrEmitter, pc: u64, instr: u16, slots: u16) -> Emitted
     ensures { λ r. ⌜ Emits slots (held em) (c-j pc instr) r ⌝ }
 {
     let target = std::num::wrapping_add_u64(pc, isa::decode::imm_cj(instr));
@@ -239,7 +242,7 @@ fn c_condition(funct3: u16) -> u8
 }
 
 // C.BEQZ and C.BNEZ.
-fn emit_c_branch(em: A64Emitter, slots: u16, pc: u64, instr: u16, funct3: u16) -> Emitted
+fn emit_c_branch(em: InstrEmitter, slots: u16, pc: u64, instr: u16, funct3: u16) -> Emitted
     requires { ⌜ slots ≤ 32512 ⌝ }
     ensures { λ r. ⌜ Emits slots (held em) (c-branch pc instr funct3) r ⌝ }
 {
@@ -252,7 +255,7 @@ fn emit_c_branch(em: A64Emitter, slots: u16, pc: u64, instr: u16, funct3: u16) -
     terminate(em.emit(A64Emitter::csel_x(0, 12, 13, c_condition(funct3))))
 }
 
-fn emit_c_sp_or_lui(em: A64Emitter, slots: u16, instr: u16) -> Emitted
+fn emit_c_sp_or_lui(em: InstrEmitter, slots: u16, instr: u16) -> Emitted
     requires { ⌜ slots ≤ 32512 ⌝ }
     ensures { λ r. ⌜ Emits slots (held em) (c-addi16sp-lui instr) r ⌝ }
 {
@@ -262,7 +265,7 @@ fn emit_c_sp_or_lui(em: A64Emitter, slots: u16, instr: u16) -> Emitted
     emit_c_lui(em, slots, instr)
 }
 
-fn emit_quadrant_1(em: A64Emitter, slots: u16, pc: u64, instr: u16) -> Emitted
+fn emit_quadrant_1(em: InstrEmitter, slots: u16, pc: u64, instr: u16) -> Emitted
     requires { ⌜ slots ≤ 32512 ⌝ }
     ensures { λ r. ⌜ Emits slots (held em) (quadrant-1 pc instr) r ⌝ }
 {
@@ -279,7 +282,7 @@ fn emit_quadrant_1(em: A64Emitter, slots: u16, pc: u64, instr: u16) -> Emitted
     }
 }
 
-fn emit_c_slli(em: A64Emitter, slots: u16, instr: u16) -> Emitted
+fn emit_c_slli(em: InstrEmitter, slots: u16, instr: u16) -> Emitted
     requires { ⌜ slots ≤ 32512 ⌝ }
     ensures { λ r. ⌜ Emits slots (held em) (c-slli instr) r ⌝ }
 {
@@ -291,7 +294,7 @@ fn emit_c_slli(em: A64Emitter, slots: u16, instr: u16) -> Emitted
     go_on(with_imm(em, slots, rd, isa::decode::shamt_c(instr), w, rd))
 }
 
-fn emit_c_jr(em: A64Emitter, slots: u16, rd: u8) -> Emitted
+fn emit_c_jr(em: InstrEmitter, slots: u16, rd: u8) -> Emitted
     requires { ⌜ (slots ≤ 32512) × (rd < 32) ⌝ }
     ensures { λ r. ⌜ Emits slots (held em) (c-jr rd) r ⌝ }
 {
@@ -303,7 +306,7 @@ fn emit_c_jr(em: A64Emitter, slots: u16, rd: u8) -> Emitted
     terminate(em.emit(A64Emitter::and_x(0, 9, 10)))
 }
 
-fn emit_c_mv(em: A64Emitter, slots: u16, rd: u8, rs2: u8) -> Emitted
+fn emit_c_mv(em: InstrEmitter, slots: u16, rd: u8, rs2: u8) -> Emitted
     requires { ⌜ (slots ≤ 32512) × (rd < 32) × (rs2 < 32) ⌝ }
     ensures { λ r. ⌜ Emits slots (held em) (c-mv rd rs2) r ⌝ }
 {
@@ -314,7 +317,7 @@ fn emit_c_mv(em: A64Emitter, slots: u16, rd: u8, rs2: u8) -> Emitted
     go_on(store(em, slots, 11, rd))
 }
 
-fn emit_c_jalr(em: A64Emitter, slots: u16, pc: u64, rd: u8) -> Emitted
+fn emit_c_jalr(em: InstrEmitter, slots: u16, pc: u64, rd: u8) -> Emitted
     requires { ⌜ (slots ≤ 32512) × (rd < 32) ⌝ }
     ensures { λ r. ⌜ Emits slots (held em) (c-jalr pc rd) r ⌝ }
 {
@@ -326,7 +329,7 @@ fn emit_c_jalr(em: A64Emitter, slots: u16, pc: u64, rd: u8) -> Emitted
     terminate(em.emit(A64Emitter::orr_x(0, 11, 31)))
 }
 
-fn emit_c_add(em: A64Emitter, slots: u16, rd: u8, rs2: u8) -> Emitted
+fn emit_c_add(em: InstrEmitter, slots: u16, rd: u8, rs2: u8) -> Emitted
     requires { ⌜ (slots ≤ 32512) × (rd < 32) × (rs2 < 32) ⌝ }
     ensures { λ r. ⌜ Emits slots (held em) (c-add rd rs2) r ⌝ }
 {
@@ -339,7 +342,7 @@ fn emit_c_add(em: A64Emitter, slots: u16, rd: u8, rs2: u8) -> Emitted
 }
 
 // C.JR, C.MV, C.EBREAK, C.JALR and C.ADD, by bit 12 and the two registers.
-fn emit_c_jump_move_add(em: A64Emitter, host: Host, pc: u64, instr: u16) -> Emitted
+fn emit_c_jump_move_add(em: InstrEmitter, host: Host, pc: u64, instr: u16) -> Emitted
     requires { ⌜ host .slots ≤ 32512 ⌝ }
     ensures { λ r. ⌜ Emits (host .slots) (held em) (c-jump-move-add (host .ebreak) pc instr) r ⌝ }
 {
@@ -366,7 +369,7 @@ fn emit_c_jump_move_add(em: A64Emitter, host: Host, pc: u64, instr: u16) -> Emit
     emit_c_add(em, slots, rd, rs2)
 }
 
-fn emit_quadrant_2(em: A64Emitter, host: Host, pc: u64, instr: u16) -> Emitted
+fn emit_quadrant_2(em: InstrEmitter, host: Host, pc: u64, instr: u16) -> Emitted
     requires { ⌜ host .slots ≤ 32512 ⌝ }
     ensures { λ r. ⌜ Emits (host .slots) (held em) (quadrant-2 (host .ebreak) pc instr) r ⌝ }
 {
@@ -377,7 +380,7 @@ fn emit_quadrant_2(em: A64Emitter, host: Host, pc: u64, instr: u16) -> Emitted
     }
 }
 
-pub fn emit_native_instr16(em: A64Emitter, host: Host, pc: u64, instr: u16) -> Emitted
+pub fn emit_native_instr16(em: InstrEmitter, host: Host, pc: u64, instr: u16) -> Emitted
     requires { ⌜ host .slots ≤ 32512 ⌝ }
     ensures { λ r. ⌜ Emits (host .slots) (held em) (emit-native-instr16 (host .ebreak) pc instr) r ⌝ }
 {

@@ -14,6 +14,7 @@ use crate::calls::none;
 use crate::calls::store_rd;
 use crate::calls::terminate;
 use a64::A64Emitter;
+use a64::InstrEmitter;
 use isa::classes::Class;
 use isa::decode::Decoded32;
 
@@ -29,14 +30,14 @@ const C_GE: u8 = 0xA;
 
 const C_LT: u8 = 0xB;
 
-fn emit_lui(em: A64Emitter, slots: u16, instr: u32, d: Decoded32) -> Emitted
+fn emit_lui(em: InstrEmitter, slots: u16, instr: u32, d: Decoded32) -> Emitted
     requires { ⌜ (slots ≤ 32512) × InRange d ⌝ }
     ensures { λ r. ⌜ Emits slots (held em) (lui instr d) r ⌝ }
 {
     go_on(mov_reg(em, slots, d.rd, isa::decode::imm_u(instr)))
 }
 
-fn emit_auipc(em: A64Emitter, slots: u16, pc: u64, instr: u32, d: Decoded32) -> Emitted
+fn emit_auipc(em: InstrEmitter, slots: u16, pc: u64, instr: u32, d: Decoded32) -> Emitted
     requires { ⌜ (slots ≤ 32512) × InRange d ⌝ }
     ensures { λ r. ⌜ Emits slots (held em) (auipc pc instr d) r ⌝ }
 {
@@ -44,7 +45,7 @@ fn emit_auipc(em: A64Emitter, slots: u16, pc: u64, instr: u32, d: Decoded32) -> 
     go_on(mov_reg(em, slots, d.rd, val))
 }
 
-fn emit_jal(em: A64Emitter, slots: u16, pc: u64, instr: u32, d: Decoded32) -> Emitted
+fn emit_jal(em: InstrEmitter, slots: u16, pc: u64, instr: u32, d: Decoded32) -> Emitted
     requires { ⌜ (slots ≤ 32512) × InRange d ⌝ }
     ensures { λ r. ⌜ Emits slots (held em) (jal pc instr d) r ⌝ }
 {
@@ -53,7 +54,7 @@ fn emit_jal(em: A64Emitter, slots: u16, pc: u64, instr: u32, d: Decoded32) -> Em
     terminate(em.mov_imm64(0, target))
 }
 
-fn emit_jalr(em: A64Emitter, slots: u16, pc: u64, instr: u32, d: Decoded32) -> Emitted
+fn emit_jalr(em: InstrEmitter, slots: u16, pc: u64, instr: u32, d: Decoded32) -> Emitted
     requires { ⌜ (slots ≤ 32512) × InRange d ⌝ }
     ensures { λ r. ⌜ Emits slots (held em) (jalr pc instr d) r ⌝ }
 {
@@ -66,7 +67,7 @@ fn emit_jalr(em: A64Emitter, slots: u16, pc: u64, instr: u32, d: Decoded32) -> E
 }
 
 fn emit_branch_on(
-    em: A64Emitter,
+    em: InstrEmitter,
     slots: u16,
     pc: u64,
     instr: u32,
@@ -85,7 +86,7 @@ fn emit_branch_on(
 }
 
 fn emit_branch(
-    em: A64Emitter,
+    em: InstrEmitter,
     slots: u16,
     pc: u64,
     instr: u32,
@@ -106,7 +107,7 @@ fn emit_branch(
     }
 }
 
-fn emit_op_imm(em: A64Emitter, slots: u16, instr: u32, d: Decoded32) -> Emitted
+fn emit_op_imm(em: InstrEmitter, slots: u16, instr: u32, d: Decoded32) -> Emitted
     requires { ⌜ (slots ≤ 32512) × InRange d ⌝ }
     ensures { λ r. ⌜ Emits slots (held em) (op-imm instr d) r ⌝ }
 {
@@ -116,7 +117,7 @@ fn emit_op_imm(em: A64Emitter, slots: u16, instr: u32, d: Decoded32) -> Emitted
     store_rd(out, slots, d.rd)
 }
 
-fn emit_op_imm_32(em: A64Emitter, slots: u16, instr: u32, d: Decoded32) -> Emitted
+fn emit_op_imm_32(em: InstrEmitter, slots: u16, instr: u32, d: Decoded32) -> Emitted
     requires { ⌜ (slots ≤ 32512) × InRange d ⌝ }
     ensures { λ r. ⌜ Emits slots (held em) (op-imm-32 instr d) r ⌝ }
 {
@@ -126,7 +127,7 @@ fn emit_op_imm_32(em: A64Emitter, slots: u16, instr: u32, d: Decoded32) -> Emitt
     store_rd(out, slots, d.rd)
 }
 
-fn emit_op_32(em: A64Emitter, slots: u16, d: Decoded32) -> Emitted
+fn emit_op_32(em: InstrEmitter, slots: u16, d: Decoded32) -> Emitted
     requires { ⌜ (slots ≤ 32512) × InRange d ⌝ }
     ensures { λ r. ⌜ Emits slots (held em) (op-32 d) r ⌝ }
 {
@@ -135,7 +136,7 @@ fn emit_op_32(em: A64Emitter, slots: u16, d: Decoded32) -> Emitted
     store_rd(out, slots, d.rd)
 }
 
-fn emit_op(em: A64Emitter, slots: u16, d: Decoded32) -> Emitted
+fn emit_op(em: InstrEmitter, slots: u16, d: Decoded32) -> Emitted
     requires { ⌜ (slots ≤ 32512) × InRange d ⌝ }
     ensures { λ r. ⌜ Emits slots (held em) (op d) r ⌝ }
 {
@@ -144,7 +145,7 @@ fn emit_op(em: A64Emitter, slots: u16, d: Decoded32) -> Emitted
     store_rd(out, slots, d.rd)
 }
 
-fn emit_misc_mem(em: A64Emitter, slots: u16, d: Decoded32) -> Emitted
+fn emit_misc_mem(em: InstrEmitter, slots: u16, d: Decoded32) -> Emitted
     ensures { λ r. ⌜ Emits slots (held em) (misc-mem d) r ⌝ }
 {
     match d.funct3 as u32 {
@@ -154,7 +155,7 @@ fn emit_misc_mem(em: A64Emitter, slots: u16, d: Decoded32) -> Emitted
     }
 }
 
-pub fn emit_native_instr(em: A64Emitter, slots: u16, pc: u64, instr: u32, d: Decoded32) -> Emitted
+pub fn emit_native_instr(em: InstrEmitter, slots: u16, pc: u64, instr: u32, d: Decoded32) -> Emitted
     requires { ⌜ (slots ≤ 32512) × (d ≡ decode32 instr) ⌝ }
     ensures { λ r. ⌜ Emits slots (held em) (emit-native-instr pc instr d) r ⌝ }
 {

@@ -1,5 +1,5 @@
 // The emitters of jit_arm64.rs, ported: one instruction's words.
-use a64::A64Emitter;
+use a64::InstrEmitter;
 
 mod calls;
 pub mod instr16;
@@ -18,7 +18,7 @@ pub enum EmitFlow {
 
 // The emitter, with what it was given, and the flow.
 pub struct Emitted {
-    pub em: A64Emitter,
+    pub em: InstrEmitter,
     pub flow: EmitFlow,
 }
 

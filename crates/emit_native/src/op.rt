@@ -12,6 +12,7 @@ use crate::Emitted;
 use crate::calls::go_on;
 use crate::calls::none;
 use a64::A64Emitter;
+use a64::InstrEmitter;
 
 pub const C_EQ: u8 = 0x0;
 
@@ -22,7 +23,7 @@ const C_MI: u8 = 0x4;
 pub const C_LT: u8 = 0xB;
 
 // X11 is 1 where the comparison of X9 and X10 meets the condition, and else 0.
-pub fn emit_compared(em: A64Emitter, condition: u8) -> A64Emitter
+pub fn emit_compared(em: InstrEmitter, condition: u8) -> InstrEmitter
     requires { ⌜ condition < 16 ⌝ }
     ensures { λ r. ⌜ held r ≡ emitted-all (held em) (groups 0 (Call.emit (cmp-x 9 10) ∷ Call.mov-imm64 12 1 ∷ Call.mov-imm64 13 0 ∷ Call.emit (csel-x 11 12 13 condition) ∷ [])) ⌝ }
 {
@@ -33,7 +34,7 @@ pub fn emit_compared(em: A64Emitter, condition: u8) -> A64Emitter
 }
 
 // X11 is all ones where the divisor X10 is 0.
-pub fn emit_zero_divisor(em: A64Emitter, zero: u8, ones: u8) -> A64Emitter
+pub fn emit_zero_divisor(em: InstrEmitter, zero: u8, ones: u8) -> InstrEmitter
     requires { ⌜ (zero < 32) × (ones < 32) ⌝ }
     ensures { λ r. ⌜ held r ≡ emitted-all (held em) (groups 0 (Call.mov-imm64 zero 0 ∷ Call.emit (cmp-x 10 zero) ∷ Call.mov-imm64 ones u64-MAX ∷ Call.emit (csel-x 11 ones 11 C-EQ) ∷ [])) ⌝ }
 {
@@ -44,7 +45,7 @@ pub fn emit_zero_divisor(em: A64Emitter, zero: u8, ones: u8) -> A64Emitter
 }
 
 // X11 is the remainder of the division by the word w into Xq, or the dividend X9 where the divisor X10 is 0.
-pub fn emit_remainder(em: A64Emitter, w: u32, q: u8, zero: u8) -> A64Emitter
+pub fn emit_remainder(em: InstrEmitter, w: u32, q: u8, zero: u8) -> InstrEmitter
     requires { ⌜ (q < 32) × (zero < 32) ⌝ }
     ensures { λ r. ⌜ ((f : Form) → w ≡ encode f → held r ≡ emitted-all (held em) (groups 0 (Call.emit f ∷ Call.emit (mul-x q q 10) ∷ Call.emit (sub-x 11 9 q) ∷ Call.mov-imm64 zero 0 ∷ Call.emit (cmp-x 10 zero) ∷ Call.emit (csel-x 11 9 11 C-EQ) ∷ []))) ⌝ }
 {
@@ -57,7 +58,7 @@ pub fn emit_remainder(em: A64Emitter, w: u32, q: u8, zero: u8) -> A64Emitter
 }
 
 // Xd is 1 where Xn is the value, and else 0.
-fn emit_is_value(em: A64Emitter, rn: u8, value: u64, rd: u8, zero: u8) -> A64Emitter
+fn emit_is_value(em: InstrEmitter, rn: u8, value: u64, rd: u8, zero: u8) -> InstrEmitter
     requires { ⌜ (rn < 32) × (rd < 32) × (zero < 32) ⌝ }
     ensures { λ r. ⌜ held r ≡ emitted-all (held em) (groups 0 (Call.mov-imm64 12 value ∷ Call.emit (cmp-x rn 12) ∷ Call.mov-imm64 rd 1 ∷ Call.mov-imm64 zero 0 ∷ Call.emit (csel-x rd rd zero C-EQ) ∷ [])) ⌝ }
 {
@@ -69,7 +70,7 @@ fn emit_is_value(em: A64Emitter, rn: u8, value: u64, rd: u8, zero: u8) -> A64Emi
 }
 
 // Whether X9 is the least signed number and X10 is -1, as EQ.
-fn emit_overflow(em: A64Emitter) -> A64Emitter
+fn emit_overflow(em: InstrEmitter) -> InstrEmitter
     ensures { λ r. ⌜ held r ≡ emitted-all (held em) (groups 0 (Call.mov-imm64 12 i64-MIN ∷ Call.emit (cmp-x 9 12) ∷ Call.mov-imm64 14 1 ∷ Call.mov-imm64 15 0 ∷ Call.emit (csel-x 14 14 15 C-EQ) ∷ Call.mov-imm64 12 u64-MAX ∷ Call.emit (cmp-x 10 12) ∷ Call.mov-imm64 15 1 ∷ Call.mov-imm64 16 0 ∷ Call.emit (csel-x 15 15 16 C-EQ) ∷ Call.emit (and-x 14 14 15) ∷ Call.mov-imm64 16 1 ∷ Call.emit (cmp-x 14 16) ∷ [])) ⌝ }
 {
     let em = emit_is_value(em, 9, 0x8000_0000_0000_0000, 14, 15);
@@ -79,7 +80,7 @@ fn emit_overflow(em: A64Emitter) -> A64Emitter
     em.emit(A64Emitter::cmp_x(14, 16))
 }
 
-fn emit_op_base(em: A64Emitter, funct3: u32) -> Emitted
+fn emit_op_base(em: InstrEmitter, funct3: u32) -> Emitted
     ensures { λ r. ⌜ ((slots : ℕ) → Emits slots (held em) (op-arm F7-BASE funct3) r) ⌝ }
 {
     match funct3 {
@@ -95,7 +96,7 @@ fn emit_op_base(em: A64Emitter, funct3: u32) -> Emitted
     }
 }
 
-fn emit_op_sub_sra(em: A64Emitter, funct3: u32) -> Emitted
+fn emit_op_sub_sra(em: InstrEmitter, funct3: u32) -> Emitted
     ensures { λ r. ⌜ ((slots : ℕ) → Emits slots (held em) (op-arm F7-SUB-SRA funct3) r) ⌝ }
 {
     match funct3 {
@@ -105,7 +106,7 @@ fn emit_op_sub_sra(em: A64Emitter, funct3: u32) -> Emitted
     }
 }
 
-fn emit_mulhsu(em: A64Emitter) -> A64Emitter
+fn emit_mulhsu(em: InstrEmitter) -> InstrEmitter
     ensures { λ r. ⌜ held r ≡ emitted-all (held em) (groups 0 (Call.emit (umulh-x 11 9 10) ∷ Call.mov-imm64 12 0 ∷ Call.emit (cmp-x 9 12) ∷ Call.mov-imm64 13 0 ∷ Call.emit (csel-x 12 10 13 C-MI) ∷ Call.emit (sub-x 11 11 12) ∷ [])) ⌝ }
 {
     let em = em.emit(A64Emitter::umulh_x(11, 9, 10));
@@ -116,7 +117,7 @@ fn emit_mulhsu(em: A64Emitter) -> A64Emitter
     em.emit(A64Emitter::sub_x(11, 11, 12))
 }
 
-fn emit_op_muldiv(em: A64Emitter, funct3: u32) -> Emitted
+fn emit_op_muldiv(em: InstrEmitter, funct3: u32) -> Emitted
     ensures { λ r. ⌜ ((slots : ℕ) → Emits slots (held em) (op-arm F7-MULDIV funct3) r) ⌝ }
 {
     match funct3 {
@@ -151,7 +152,7 @@ fn emit_op_muldiv(em: A64Emitter, funct3: u32) -> Emitted
     }
 }
 
-pub fn emit_op_arm(em: A64Emitter, funct7: u32, funct3: u32) -> Emitted
+pub fn emit_op_arm(em: InstrEmitter, funct7: u32, funct3: u32) -> Emitted
     ensures { λ r. ⌜ ((slots : ℕ) → Emits slots (held em) (op-arm funct7 funct3) r) ⌝ }
 {
     match funct7 {

@@ -12,16 +12,17 @@ use crate::calls::none;
 use crate::op::emit_remainder;
 use crate::op::emit_zero_divisor;
 use a64::A64Emitter;
+use a64::InstrEmitter;
 
 // X11 is a word, sign-extended.
-pub fn emit_sxtw(em: A64Emitter) -> A64Emitter
+pub fn emit_sxtw(em: InstrEmitter) -> InstrEmitter
     ensures { λ r. ⌜ held r ≡ emitted-all (held em) (groups 0 (Call.emit (sxtw-x 11 11) ∷ [])) ⌝ }
 {
     em.emit(A64Emitter::sxtw_x(11, 11))
 }
 
 // The shift's count is the low five bits of X10.
-fn emit_low_count(em: A64Emitter, mask: u8) -> A64Emitter
+fn emit_low_count(em: InstrEmitter, mask: u8) -> InstrEmitter
     requires { ⌜ mask < 32 ⌝ }
     ensures { λ r. ⌜ held r ≡ emitted-all (held em) (groups 0 (Call.mov-imm64 mask 31 ∷ Call.emit (and-x 10 10 mask) ∷ [])) ⌝ }
 {
@@ -30,7 +31,7 @@ fn emit_low_count(em: A64Emitter, mask: u8) -> A64Emitter
 }
 
 // X9 and X10 are words, sign-extended.
-fn emit_sign_extended(em: A64Emitter) -> A64Emitter
+fn emit_sign_extended(em: InstrEmitter) -> InstrEmitter
     ensures { λ r. ⌜ held r ≡ emitted-all (held em) (groups 0 (Call.emit (sxtw-x 9 9) ∷ Call.emit (sxtw-x 10 10) ∷ [])) ⌝ }
 {
     let em = em.emit(A64Emitter::sxtw_x(9, 9));
@@ -38,7 +39,7 @@ fn emit_sign_extended(em: A64Emitter) -> A64Emitter
 }
 
 // X9 and X10 are words, with zeros above.
-fn emit_zero_extended(em: A64Emitter) -> A64Emitter
+fn emit_zero_extended(em: InstrEmitter) -> InstrEmitter
     ensures { λ r. ⌜ held r ≡ emitted-all (held em) (groups 0 (Call.mov-imm64 12 0xFFFFFFFF ∷ Call.emit (and-x 9 9 12) ∷ Call.emit (and-x 10 10 12) ∷ [])) ⌝ }
 {
     let em = em.mov_imm64(12, 0xFFFF_FFFF);
@@ -46,7 +47,7 @@ fn emit_zero_extended(em: A64Emitter) -> A64Emitter
     em.emit(A64Emitter::and_x(10, 10, 12))
 }
 
-fn emit_op_32_base(em: A64Emitter, funct3: u32) -> Emitted
+fn emit_op_32_base(em: InstrEmitter, funct3: u32) -> Emitted
     ensures { λ r. ⌜ ((slots : ℕ) → Emits slots (held em) (op-32-arm F7-BASE funct3) r) ⌝ }
 {
     match funct3 {
@@ -65,7 +66,7 @@ fn emit_op_32_base(em: A64Emitter, funct3: u32) -> Emitted
     }
 }
 
-fn emit_op_32_sub_sra(em: A64Emitter, funct3: u32) -> Emitted
+fn emit_op_32_sub_sra(em: InstrEmitter, funct3: u32) -> Emitted
     ensures { λ r. ⌜ ((slots : ℕ) → Emits slots (held em) (op-32-arm F7-SUB-SRA funct3) r) ⌝ }
 {
     match funct3 {
@@ -79,7 +80,7 @@ fn emit_op_32_sub_sra(em: A64Emitter, funct3: u32) -> Emitted
     }
 }
 
-fn emit_op_32_muldiv(em: A64Emitter, funct3: u32) -> Emitted
+fn emit_op_32_muldiv(em: InstrEmitter, funct3: u32) -> Emitted
     ensures { λ r. ⌜ ((slots : ℕ) → Emits slots (held em) (op-32-arm F7-MULDIV funct3) r) ⌝ }
 {
     match funct3 {
@@ -111,7 +112,7 @@ fn emit_op_32_muldiv(em: A64Emitter, funct3: u32) -> Emitted
     }
 }
 
-pub fn emit_op_32_arm(em: A64Emitter, funct7: u32, funct3: u32) -> Emitted
+pub fn emit_op_32_arm(em: InstrEmitter, funct7: u32, funct3: u32) -> Emitted
     ensures { λ r. ⌜ ((slots : ℕ) → Emits slots (held em) (op-32-arm funct7 funct3) r) ⌝ }
 {
     match funct7 {

@@ -13,9 +13,10 @@ use crate::op::C_LT;
 use crate::op::emit_compared;
 use crate::op_32::emit_sxtw;
 use a64::A64Emitter;
+use a64::InstrEmitter;
 
 // SRLI and SRAI.
-fn emit_op_imm_right(em: A64Emitter, imm: u64, imm12: u16) -> Emitted
+fn emit_op_imm_right(em: InstrEmitter, imm: u64, imm12: u16) -> Emitted
     ensures { λ r. ⌜ ((slots : ℕ) → Emits slots (held em) (op-imm-arm imm imm12 F3-SRL-SRA) r) ⌝ }
 {
     let em = em.mov_imm64(10, (imm12 % 64) as u64);
@@ -26,7 +27,7 @@ fn emit_op_imm_right(em: A64Emitter, imm: u64, imm12: u16) -> Emitted
     }
 }
 
-pub fn emit_op_imm_arm(em: A64Emitter, imm: u64, imm12: u16, funct3: u32) -> Emitted
+pub fn emit_op_imm_arm(em: InstrEmitter, imm: u64, imm12: u16, funct3: u32) -> Emitted
     ensures { λ r. ⌜ ((slots : ℕ) → Emits slots (held em) (op-imm-arm imm imm12 funct3) r) ⌝ }
 {
     match funct3 {
@@ -50,7 +51,7 @@ pub fn emit_op_imm_arm(em: A64Emitter, imm: u64, imm12: u16, funct3: u32) -> Emi
 }
 
 // SRLIW and SRAIW.
-fn emit_op_imm_32_right(em: A64Emitter, imm: u64, imm12: u16, funct7: u32) -> Emitted
+fn emit_op_imm_32_right(em: InstrEmitter, imm: u64, imm12: u16, funct7: u32) -> Emitted
     ensures { λ r. ⌜ ((slots : ℕ) → Emits slots (held em) (op-imm-32-arm imm imm12 funct7 F3-SRL-SRA) r) ⌝ }
 {
     let em = em.mov_imm64(10, (imm12 % 32) as u64);
@@ -68,7 +69,7 @@ fn emit_op_imm_32_right(em: A64Emitter, imm: u64, imm12: u16, funct7: u32) -> Em
     }
 }
 
-pub fn emit_op_imm_32_arm(em: A64Emitter, imm: u64, imm12: u16, funct7: u32, funct3: u32) -> Emitted
+pub fn emit_op_imm_32_arm(em: InstrEmitter, imm: u64, imm12: u16, funct7: u32, funct3: u32) -> Emitted
     ensures { λ r. ⌜ ((slots : ℕ) → Emits slots (held em) (op-imm-32-arm imm imm12 funct7 funct3) r) ⌝ }
 {
     match funct3 {

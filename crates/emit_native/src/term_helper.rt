@@ -12,6 +12,7 @@ use crate::calls::load;
 use crate::calls::none;
 use crate::calls::terminate;
 use a64::A64Emitter;
+use a64::InstrEmitter;
 use isa::decode::Decoded32;
 
 const MEM_OP_LB: u64 = 0;
@@ -37,7 +38,7 @@ const MEM_OP_SW: u64 = 18;
 const MEM_OP_SD: u64 = 19;
 
 // X1 and X2 and X3 into X0 and X1 and X2.
-fn emit_pointers(em: A64Emitter) -> A64Emitter
+fn emit_pointers(em: InstrEmitter) -> InstrEmitter
     ensures { λ r. ⌜ held r ≡ emitted-all (held em) (groups 0 (Call.emit (mov-x 0 1) ∷ Call.emit (mov-x 1 2) ∷ Call.emit (mov-x 2 3) ∷ [])) ⌝ }
 {
     let em = em.emit(A64Emitter::mov_x(0, 1));
@@ -46,7 +47,7 @@ fn emit_pointers(em: A64Emitter) -> A64Emitter
 }
 
 // The instructions before the helper's, where there are any, on top of its own count.
-fn emit_prefix(em: A64Emitter, prefix: u32) -> A64Emitter
+fn emit_prefix(em: InstrEmitter, prefix: u32) -> InstrEmitter
     ensures { λ r. ⌜ ((slots : ℕ) → held r ≡ emitted-all (held em) (groups slots (if-not-0 prefix (Call.mov-imm64 12 prefix ∷ Call.emit (add-x 1 1 12) ∷ [])))) ⌝ }
 {
     if prefix == 0 {
@@ -57,7 +58,7 @@ fn emit_prefix(em: A64Emitter, prefix: u32) -> A64Emitter
 }
 
 // The call, with X30 kept on the stack, and the return.
-fn emit_call(em: A64Emitter, helper: u64, prefix: u32) -> A64Emitter
+fn emit_call(em: InstrEmitter, helper: u64, prefix: u32) -> InstrEmitter
     ensures { λ r. ⌜ ((slots : ℕ) → held r ≡ emitted-all (held em) (groups slots (call-helper helper prefix))) ⌝ }
 {
     let em = em.mov_imm64(16, helper);
@@ -71,7 +72,7 @@ fn emit_call(em: A64Emitter, helper: u64, prefix: u32) -> A64Emitter
 }
 
 // The arguments of a general helper: X1 to X5 into X0 to X4, the instruction and the PC.
-fn emit_exec(em: A64Emitter, helper: u64, pc: u64, instr: u32, prefix: u32) -> Emitted
+fn emit_exec(em: InstrEmitter, helper: u64, pc: u64, instr: u32, prefix: u32) -> Emitted
     ensures { λ r. ⌜ ((slots : ℕ) → Emits slots (held em) (terminate (call-exec helper pc instr prefix)) r) ⌝ }
 {
     let em = emit_pointers(em);
@@ -84,7 +85,7 @@ fn emit_exec(em: A64Emitter, helper: u64, pc: u64, instr: u32, prefix: u32) -> E
 
 // The memory helper for a load: the address in X11, no value.
 fn emit_load(
-    em: A64Emitter,
+    em: InstrEmitter,
     host: Host,
     op: u64,
     pc: u64,
@@ -109,7 +110,7 @@ fn emit_load(
 
 // For a store: the address in X11, the value in X12.
 fn emit_store(
-    em: A64Emitter,
+    em: InstrEmitter,
     host: Host,
     op: u64,
     pc: u64,
@@ -134,7 +135,7 @@ fn emit_store(
 }
 
 fn emit_load_helper(
-    em: A64Emitter,
+    em: InstrEmitter,
     host: Host,
     pc: u64,
     instr: u32,
@@ -158,7 +159,7 @@ fn emit_load_helper(
 }
 
 fn emit_store_helper(
-    em: A64Emitter,
+    em: InstrEmitter,
     host: Host,
     pc: u64,
     instr: u32,
@@ -180,7 +181,7 @@ fn emit_store_helper(
 
 // By the opcode.
 fn emit_opcode_helper(
-    em: A64Emitter,
+    em: InstrEmitter,
     host: Host,
     pc: u64,
     instr: u32,
@@ -203,7 +204,7 @@ fn emit_opcode_helper(
 }
 
 pub fn emit_native_term_helper32(
-    em: A64Emitter,
+    em: InstrEmitter,
     host: Host,
     pc: u64,
     instr: u32,
@@ -240,7 +241,7 @@ fn supports(op: u16, funct3: u16) -> bool
 }
 
 pub fn emit_native_term_helper16(
-    em: A64Emitter,
+    em: InstrEmitter,
     host: Host,
     pc: u64,
     instr: u16,

@@ -1,6 +1,5 @@
 use borrow.Author.Tests.{eq-eqb, ne-eqb}
 use Rattle.emit_native.specs.Instr16.{c-addi}
-use Rattle.emit_native.specs.Calls.{add-x}
 use Rattle.emit_native.proofs.Decoding.{imm-ci-is}
 use borrow.Author.Needs.{needs}
 use Rattle.emit_native.proofs.instr16.emit_c_addi.Statement.{statement}
@@ -12,7 +11,7 @@ returns c = rw (← c .before .before .rd-of .ensures .0, eq-eqb _ _ (c .before 
 
 returns-2 : tie.Need-returns-2
 unfolding c-addi
-returns-2 c = rw (← c .before .before .before .before .before .rd-of .ensures .0, ne-eqb _ _ (c .before .before .before .before .if1 .left)) (record { words = rw (c .go-on2 .ensures .0, c .before .with-imm .ensures (add-x 11 9 10) (c .before .before .before .add-x .ensures), c .before .before .imm-ci .ensures, imm-ci-is (c .before .before .before .before .before .before .args .instr)); flow = c .go-on2 .ensures .1 })
+returns-2 c = rw (← c .before .before .before .before .before .before .before .before .rd-of .ensures .0, ne-eqb _ _ (c .before .before .before .before .before .before .before .if1 .left)) (record { words = rw (c .go-on2 .ensures .0, c .before .store .ensures, c .before .before .emit .ensures, c .before .before .before .add-x .ensures, c .before .before .before .before .mov-imm64 .ensures, c .before .before .before .before .before .imm-ci .ensures, c .before .before .before .before .before .before .load .ensures, imm-ci-is (c .before .before .before .before .before .before .before .before .before .args .instr)); flow = c .go-on2 .ensures .1 })
 
 pub emit-c-addi-spec : {M : Type 1} → statement M
 emit-c-addi-spec =
@@ -21,6 +20,9 @@ emit-c-addi-spec =
     (λ c κs. search needs)
     (λ c κs. search needs)
     returns
+    (λ c κs. search needs)
+    (λ c κs. search needs)
+    (λ c κs. search needs)
     (λ c κs. search needs)
     (λ c κs. search needs)
     (λ c κs. search needs)
