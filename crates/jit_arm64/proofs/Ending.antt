@@ -1,35 +1,20 @@
--- The end of a block behind the words of its instructions: they all fit. Assumes nothing.
-use Prim.Native.Nat.{ℕ, _+_, _*_, _≤_}
+-- The end of a block after the words of its instructions: they all fit. Assumes nothing.
+use Prim.Native.Nat.{ℕ, _+_, _≤_}
 use native.Mathlib.Omega.{arith}
 use mathlib.Core.Path.{_≡_, refl, sym, ap, _∙_}
-use mathlib.Core.List.{List, [], _∷_, _++_, append-nil, flatten}
-use lib.ListN.{length, take}
+use mathlib.Core.List.{List, [], _∷_, _++_, flatten}
+use lib.ListN.{length, take, length-take}
 use Rattle.word.specs.Word.{add}
-use Rattle.a64.specs.Emitter.{max-words, held, emitted-all, Added}
-use Rattle.a64.proofs.Emission.{emitted-all-new}
+use Rattle.a64.specs.declared.A64Emitter.{A64Emitter}
+use Rattle.a64.specs.Emitter.{max-words, block-words, emitted-in, emitted-all}
+use Rattle.a64.proofs.Emission.{emitted-fits, emitted-all-new}
 use Rattle.emit_native.specs.Calls.{Call, emit, mov-imm64, ret, groups, words}
 use Rattle.emit_native.proofs.Size.{size, size-append, size-le}
 use Rattle.jit_arm64.specs.declared.block.Stop.{Stop}
 use Rattle.jit_arm64.specs.declared.block.Stop.the-variants.{Limit, Ended, Helper, Uncovered, NotFetched}
-use Rattle.jit_arm64.specs.declared.block.Walked.{Walked}
-use Rattle.jit_arm64.specs.Block.{max-steps, Walk, return-calls, next-calls, end-calls, block-calls, most-walked, Appended, WalkedOf, BlockOf}
-use Rattle.jit_arm64.proofs.Turns.{small, put, words-append, words-size}
-
--- the end fits: 29 words for each of 64 instructions, and 6; or a helper's behind 63
-unfoldable pub end-room : Stop → ℕ
-end-room Helper = 0
-end-room Ended = 2
-end-room Limit = 6
-end-room Uncovered = 6
-end-room NotFetched = 6
-
-pub end-fits : (why : Stop) (n : ℕ) → n ≤ most-walked why → n + end-room why ≤ max-words
-unfolding most-walked end-room
-end-fits Helper n h = omega arith
-end-fits Ended n h = omega arith
-end-fits Limit n h = omega arith
-end-fits Uncovered n h = omega arith
-end-fits NotFetched n h = omega arith
+use Rattle.jit_arm64.specs.Block.{max-steps, Walk, return-calls, next-calls, end-calls, BlockOf}
+use Rattle.jit_arm64.proofs.Emitting.{small, words-append, words-size}
+use Rattle.jit_arm64.proofs.Walking.{end-room, AtEnd}
 
 module _ (slots : ℕ) where
   -- the count is one word, a PC at most four
@@ -59,26 +44,27 @@ module _ (slots : ℕ) where
   end-most Uncovered = omega arith
   end-most NotFetched = omega arith
 
-  -- the end, emitted by itself, behind the first n of l
-  pub ended : (why : Stop) (pc count : ℕ) {h ws l l′ : List ℕ} {n r : ℕ} → length l ≡ max-words → n ≤ most-walked why → count ≤ max-steps
-      → h ≡ [] → ws ≡ emitted-all h (groups slots (end-calls why pc count)) → Added max-words l n l′ r ws
-      → Appended l n l′ r (words slots (end-calls why pc count))
+  -- the end, emitted by itself
+  pub alone : (why : Stop) (pc count : ℕ) → count ≤ max-steps → (h ws : List ℕ) → h ≡ [] → ws ≡ emitted-all h (groups slots (end-calls why pc count))
+      → ws ≡ words slots (end-calls why pc count)
   unfolding words
-  ended why pc count {h} {ws} {l} {l′} {n} {r} long low few new held added =
-      let cs = end-calls why pc count in
-      let k = end-size why pc count few in
-      let w : ws ≡ words slots cs = held ∙ emitted-all-new h (groups slots cs) new (omega (arith, end-most why)) in
-      put l n l′ r (words slots cs) long (omega (arith, words-size slots cs, end-fits why n low)) (rw w at added)
+  alone why pc count few h ws new e =
+      e ∙ emitted-all-new h (groups slots (end-calls why pc count)) new (omega (arith, end-size why pc count few, end-most why))
 
-  pub closed : (start : ℕ) (w : Walk) (l : List ℕ) (r : Walked) (pc : ℕ) {l′ : List ℕ} {len : ℕ} → WalkedOf slots start w l r → pc ≡ add start (r .index)
-      → Appended l (r .len) l′ len (words slots (end-calls (r .stop) pc (r .count)))
-      → BlockOf slots w l′ (record { len = len; count = r .count; stop = r .stop })
-  closed start w l r pc v next a =
-      let t : end-calls (r .stop) pc (r .count) ≡ end-calls (w .stop) (w .pc) (w .count) = rw (next, v .pc, v .stop, v .count) in
-      record {
-        long = a .long;
-        holds = a .holds ∙ rw (words-append slots (w .calls) (end-calls (w .stop) (w .pc) (w .count)), ← t, v .holds);
-        count = v .count;
-        stop = v .stop;
-        room = a .room;
-      }
+-- and appended to the words of the instructions
+pub closed : {slots start : ℕ} {w : Walk} {l : List ℕ} {len i n pc : ℕ} {why : Stop} {end : List ℕ} (em : A64Emitter)
+    → AtEnd slots start w l len i n why → pc ≡ add start i → end ≡ words slots (end-calls why pc n) → block-words em ≡ emitted-in max-words (take len l) end
+    → BlockOf slots w (record { em = em; count = n; stop = why })
+closed {slots} {start} {w} {l} {len} {i} {n} {pc} {why} em v at is e =
+    let cs = end-calls why pc n in
+    let t : cs ≡ end-calls (w .stop) (w .pc) (w .count) = rw (at, v .pc, v .stop, v .count) in
+    let long = v .long in
+    let room = v .room in
+    let f : length (take len l) + length (words slots cs) ≤ max-words =
+    omega (arith, length-take len l, words-size slots cs, end-size slots why pc n (v .few)) in
+    let g : block-words em ≡ take len l ++ words slots cs = e ∙ ap (emitted-in max-words (take len l)) is ∙ emitted-fits max-words (take len l) (words slots cs) f in
+    record {
+      holds = g ∙ rw (v .holds, t, words-append slots (w .calls) (end-calls (w .stop) (w .pc) (w .count))) refl;
+      count = v .count;
+      stop = v .stop;
+    }

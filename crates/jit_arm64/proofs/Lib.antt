@@ -1,6 +1,8 @@
-pub mod Rows
-pub mod Refusals
-pub mod Turns
-pub mod Walking
+pub mod Emitting
 pub mod Ending
+pub mod Fetching
+pub mod Flows
+pub mod Refusals
+pub mod Rows
 pub mod Translating
+pub mod Walking

@@ -1,9 +1,9 @@
 -- `compile_native_block` yields no block exactly under refusals 2 to 5 of document 01. Assumes nothing.
 use Prim.Native.Nat.{ℕ, zero, suc, _+_, _%_, _≤_, _<_, _^_, min}
 use native.Mathlib.Omega.{arith}
-use mathlib.Core.Path.{_≡_, refl, sym, ap, _∙_}
+use mathlib.Core.Path.{_≡_, refl, ap, _∙_}
 use mathlib.Core.Bool.{Bool, true, false, cond, _||_}
-use mathlib.Core.List.{List, []}
+use mathlib.Core.List.{List}
 use mathlib.Core.Option.{Option, none, some}
 use lib.Dec.{eqb, ltb}
 use borrow.Author.Tests.{le-ltb, eqb-true, ne-eqb}
@@ -11,48 +11,53 @@ use Rattle.word.specs.Word.{add}
 use Rattle.emit_native.specs.declared.Host.{Host}
 use Rattle.emit_native.specs.declared.EmitFlow.{EmitFlow}
 use Rattle.emit_native.specs.declared.EmitFlow.the-variants.{Continue, Terminate, None}
-use Rattle.jit_arm64.specs.declared.fetch.Fetched.{Fetched}
-use Rattle.jit_arm64.specs.declared.fetch.Fetched.the-variants.{Missing, Half, Word}
-use Rattle.jit_arm64.specs.declared.block.Outcome.{Outcome}
-use Rattle.jit_arm64.specs.declared.block.Outcome.the-variants.{GoOn, End, Help, Pass, Lack}
-use Rattle.jit_arm64.specs.Block.{Turn, Walk, fetch, turn, step, walk, whole-walk, compile-native-block, after, none-outcome, instr16-turn, instr-turn}
-use Rattle.emit_native.specs.Calls.{Emission}
-use Rattle.jit_arm64.specs.Translate.{is-missing, is-uncovered}
+use Rattle.emit_native.specs.Calls.{Call, Emission}
 use Rattle.emit_native.proofs.Size.{by}
+use Rattle.jit_arm64.specs.Block.{Walk, fetch, emit-native, emit-term-helper, size-of, helped, step, instr-walk, walk, whole-walk, compile-native-block}
+use Rattle.jit_arm64.specs.Translate.{is-missing, neither, is-uncovered}
 
 -- the walk never counts less than it began with
-step-count : (o : Outcome) (t : Turn) (start k i : ℕ) (rest : ℕ → ℕ → Walk) → ((n j : ℕ) → n ≤ (rest n j) .count)
-    → k ≤ (step o t start k i rest) .count
-unfolding step
-step-count GoOn t start k i rest h = omega (arith, h (suc k) (i + t .size))
-step-count End t start k i rest h = omega arith
-step-count Help t start k i rest h = omega arith
-step-count Pass t start k i rest h = omega arith
-step-count Lack t start k i rest h = omega arith
+helped-count : (f : EmitFlow) (cs : List Call) (k pc : ℕ) → k ≤ helped f cs k pc .count
+unfolding helped
+helped-count Continue cs k pc = omega arith
+helped-count Terminate cs k pc = omega arith
+helped-count None cs k pc = omega arith
 
-pub walk-count : (h : Host) (guest : List ℕ) (start left k i : ℕ) → k ≤ (walk h guest start left k i) .count
+step-count : (f : EmitFlow) (e helper : Emission) (n start k i : ℕ) (rest : ℕ → ℕ → Walk) → ((m j : ℕ) → m ≤ rest m j .count) → k ≤ step f e helper n start k i rest .count
+unfolding step
+step-count Continue e helper n start k i rest up = omega (arith, up (suc k) (i + n))
+step-count Terminate e helper n start k i rest up = omega arith
+step-count None e helper n start k i rest up = helped-count (helper .flow) _ k _
+
+instr-count : (h : Host) (f : Option ℕ) (start k i : ℕ) (rest : ℕ → ℕ → Walk) → ((m j : ℕ) → m ≤ rest m j .count) → k ≤ instr-walk h f start k i rest .count
+unfolding instr-walk
+instr-count h none start k i rest up = omega arith
+instr-count h (some instr) start k i rest up = step-count _ _ _ (size-of instr) start k i rest up
+
+walk-count : (h : Host) (guest : List ℕ) (start left k i : ℕ) → k ≤ walk h guest start left k i .count
 unfolding walk
 walk-count h guest start zero k i = omega arith
-walk-count h guest start (suc left) k i =
-    let t = turn h (add start i) k (fetch (add start i) guest i) in
-    step-count (t .outcome) t start k i (walk h guest start left) (walk-count h guest start left)
+walk-count h guest start (suc left) k i = instr-count h _ start k i (walk h guest start left) (walk-count h guest start left)
 
--- the outcomes after which nothing was counted
-unfoldable pub nothing : Outcome → Bool
-nothing GoOn = false
-nothing End = false
-nothing Help = false
-nothing Pass = true
-nothing Lack = true
+-- nothing is counted where the first instruction is missing or not covered
+helped-first : (f : EmitFlow) (cs : List Call) (pc : ℕ) → ltb (helped f cs 0 pc .count) 1 ≡ neither None f
+unfolding helped neither
+helped-first Continue cs pc = refl
+helped-first Terminate cs pc = refl
+helped-first None cs pc = refl
 
-first-step : (o : Outcome) (t : Turn) (start : ℕ) (rest : ℕ → ℕ → Walk) → ((n j : ℕ) → n ≤ (rest n j) .count)
-    → ltb ((step o t start 0 0 rest) .count) 1 ≡ nothing o
-unfolding step nothing
-first-step GoOn t start rest h = le-ltb ((rest 1 (0 + t .size)) .count) 1 (h 1 (0 + t .size))
-first-step End t start rest h = refl
-first-step Help t start rest h = refl
-first-step Pass t start rest h = refl
-first-step Lack t start rest h = refl
+step-first : (f : EmitFlow) (e helper : Emission) (n start : ℕ) (rest : ℕ → ℕ → Walk) → ((m j : ℕ) → m ≤ rest m j .count)
+    → ltb (step f e helper n start 0 0 rest .count) 1 ≡ neither f (helper .flow)
+unfolding step neither
+step-first Continue e helper n start rest up = le-ltb (rest 1 (0 + n) .count) 1 (up 1 (0 + n))
+step-first Terminate e helper n start rest up = refl
+step-first None e helper n start rest up = helped-first (helper .flow) _ _
+
+instr-first : (h : Host) (f : Option ℕ) (start : ℕ) (rest : ℕ → ℕ → Walk) → ((m j : ℕ) → m ≤ rest m j .count)
+    → ltb (instr-walk h f start 0 0 rest .count) 1 ≡ (is-missing f || is-uncovered h (add start 0) f)
+unfolding instr-walk is-missing is-uncovered
+instr-first h none start rest up = refl
+instr-first h (some instr) start rest up = step-first _ _ _ (size-of instr) start rest up
 
 abbrev pub no-block : Option Walk → Bool
 no-block none = true
@@ -62,23 +67,21 @@ test : (b : Bool) (w : Walk) → no-block (cond b none (some w)) ≡ b
 test true w = refl
 test false w = refl
 
--- what the first instruction comes to
-abbrev pub first : Host → List ℕ → ℕ → Outcome
-first h guest pc = (turn h (add pc 0) 0 (fetch (add pc 0) guest 0)) .outcome
+-- what is said of the first instruction
+abbrev pub first : Host → List ℕ → ℕ → Bool
+first h guest pc = is-missing (fetch pc guest 0) || is-uncovered h pc (fetch pc guest 0)
 
-counted : (h : Host) (guest : List ℕ) (pc n : ℕ) → ltb ((walk h guest pc (suc n) 0 0) .count) 1 ≡ nothing (first h guest pc)
+counted : (h : Host) (guest : List ℕ) (pc n : ℕ) → ltb (walk h guest pc (suc n) 0 0 .count) 1 ≡ first h guest (add pc 0)
 unfolding walk
-counted h guest pc n =
-    let t = turn h (add pc 0) 0 (fetch (add pc 0) guest 0) in
-    first-step (t .outcome) t pc (walk h guest pc n) (walk-count h guest pc n)
+counted h guest pc n = instr-first h _ pc (walk h guest pc n) (walk-count h guest pc n)
 
 none-counted : (h : Host) (guest : List ℕ) (pc : ℕ) → ltb ((walk h guest pc 0 0 0) .count) 1 ≡ true
 unfolding walk
 none-counted h guest pc = refl
 
--- the limit is 0, or nothing is counted of the first instruction
+-- the limit is 0, or the first instruction is refused
 by-first : (h : Host) (guest : List ℕ) (pc limit : ℕ)
-    → no-block (compile-native-block h guest pc limit) ≡ (eqb limit 0 || nothing (first h guest pc))
+    → no-block (compile-native-block h guest pc limit) ≡ (eqb limit 0 || first h guest (add pc 0))
 unfolding compile-native-block whole-walk
 by-first h guest pc zero =
     let e : min 0 64 ≡ 0 = omega arith in
@@ -87,27 +90,6 @@ by-first h guest pc (suc n) =
     let e : min (suc n) 64 ≡ suc (min n 63) = omega arith in
     let z : eqb (suc n) 0 ≡ false = ne-eqb (suc n) 0 (λ q. omega arith) in
     rw (e, z) (test _ (walk h guest pc (suc (min n 63)) 0 0) ∙ counted h guest pc (min n 63))
-
--- ---- the first instruction, by document 01's conditions
-
-none-outcome-covered : (f : EmitFlow) → nothing (none-outcome f) ≡ is-uncovered (none-outcome f)
-unfolding nothing none-outcome is-uncovered
-none-outcome-covered Continue = refl
-none-outcome-covered Terminate = refl
-none-outcome-covered None = refl
-
-after-covered : (f : EmitFlow) (e helper : Emission) (n : ℕ) → nothing ((after f e helper n) .outcome) ≡ is-uncovered ((after f e helper n) .outcome)
-unfolding after nothing is-uncovered
-after-covered Continue e helper n = refl
-after-covered Terminate e helper n = refl
-after-covered None e helper n = none-outcome-covered (helper .flow)
-
-fetched-covered : (h : Host) (pc : ℕ) (f : Fetched)
-    → nothing ((turn h pc 0 f) .outcome) ≡ (is-missing f || is-uncovered ((turn h pc 0 f) .outcome))
-unfolding turn nothing is-missing is-uncovered instr16-turn instr-turn
-fetched-covered h pc Missing = refl
-fetched-covered h pc (Half w) = after-covered _ _ _ 2
-fetched-covered h pc (Word w) = after-covered _ _ _ 4
 
 -- an odd PC is not fetched
 odd-missing : (pc : ℕ) (guest : List ℕ) → eqb (pc % 2) 1 ≡ true → is-missing (fetch pc guest 0) ≡ true
@@ -119,13 +101,8 @@ odd-missing pc guest t =
 -- no block exactly where the limit is 0 (refusal 2), the PC is odd (3), the first instruction lacks a halfword (4), or it is neither
 -- inline nor a helper's (5)
 pub no-block-is : (h : Host) (guest : List ℕ) (pc limit : ℕ) → pc < 2 ^ 64
-    → no-block (compile-native-block h guest pc limit)
-    ≡ (eqb limit 0 || (eqb (pc % 2) 1 || (is-missing (fetch pc guest 0) || is-uncovered ((turn h pc 0 (fetch pc guest 0)) .outcome))))
+    → no-block (compile-native-block h guest pc limit) ≡ (eqb limit 0 || (eqb (pc % 2) 1 || first h guest pc))
 no-block-is h guest pc limit l =
     let e : add pc 0 ≡ pc = omega arith in
-    let m = is-missing (fetch pc guest 0) in
-    let u = is-uncovered ((turn h pc 0 (fetch pc guest 0)) .outcome) in
-    let o : (m || u) ≡ (eqb (pc % 2) 1 || (m || u)) = by (eqb (pc % 2) 1) (λ t. rw (t, odd-missing pc guest t)) (λ t. rw t) in
-    by-first h guest pc limit
-    ∙ ap (λ (b : Bool). eqb limit 0 || b)
-    (ap (λ (p : ℕ). nothing ((turn h p 0 (fetch p guest 0)) .outcome)) e ∙ fetched-covered h pc (fetch pc guest 0) ∙ o)
+    let o : first h guest pc ≡ (eqb (pc % 2) 1 || first h guest pc) = by (eqb (pc % 2) 1) (λ t. rw (t, odd-missing pc guest t)) (λ t. rw t) in
+    by-first h guest pc limit ∙ ap (λ (b : Bool). eqb limit 0 || b) (ap (first h guest) e ∙ o)

@@ -1,36 +1,33 @@
--- What holds of the walk after n instructions: what is left of it ends as the whole does. Assumes nothing.
+-- What holds of the loop after n instructions: what is left of the walk ends as the whole does. Assumes nothing.
 use Prim.Native.Nat.{ℕ, suc, _+_, _*_, _-_, _^_, _≤_, _<_}
 use native.Mathlib.Omega.{arith}
 use mathlib.Core.Path.{_≡_, refl, sym, ap, _∙_}
-use mathlib.Core.List.{List, [], _∷_, _++_, append-assoc, append-nil, flatten}
+use mathlib.Core.List.{List, [], _++_, append-assoc, append-nil, flatten}
 use lib.ListN.{length, take}
 use Rattle.word.specs.Word.{add}
-use Rattle.a64.specs.Emitter.{max-words}
+use Rattle.a64.specs.Emitter.{max-words, held, Added}
+use Rattle.emit_native.specs.declared.EmitFlow.{EmitFlow}
+use Rattle.emit_native.specs.declared.EmitFlow.the-variants.{Continue, Terminate, None}
+use Rattle.emit_native.specs.declared.Emitted.{Emitted}
 use Rattle.emit_native.specs.declared.Host.{Host}
-use Rattle.emit_native.specs.Calls.{Call, words}
-use Rattle.emit_native.specs.Decode.{decode32}
-use Rattle.emit_native.specs.Instr16.{emit-native-instr16}
-use Rattle.emit_native.specs.Instr32.{emit-native-instr}
-use Rattle.emit_native.specs.TermHelper.{emit-native-term-helper16, emit-native-term-helper32}
+use Rattle.emit_native.specs.Calls.{Call, words, Emission}
+use Rattle.emit_native.proofs.Size.{by}
 use Rattle.fetch_window.specs.Window.{index}
 use Rattle.fetch_window.proofs.Reading.{index-add}
 use Rattle.jit_arm64.specs.declared.fetch.Fetched.{Fetched}
-use Rattle.jit_arm64.specs.declared.fetch.Fetched.the-variants.{Missing, Half, Word}
-use Rattle.jit_arm64.specs.declared.block.Outcome.{Outcome}
-use Rattle.jit_arm64.specs.declared.block.Outcome.the-variants.{GoOn, End, Help, Pass, Lack}
 use Rattle.jit_arm64.specs.declared.block.Stop.{Stop}
 use Rattle.jit_arm64.specs.declared.block.Stop.the-variants.{Limit, Ended, Helper, Uncovered, NotFetched}
-use Rattle.jit_arm64.specs.declared.block.Turned.{Turned}
-use Rattle.jit_arm64.specs.declared.block.Walked.{Walked}
-use Rattle.jit_arm64.specs.Block.{max-steps, Turn, turn, instr16-turn, instr-turn, fetch, Walk, walked, in-front, step, walk, most-walked, TurnedOf, WalkedOf}
-use Rattle.jit_arm64.proofs.Turns.{most, words-append, turn-words, after-length}
+use Rattle.jit_arm64.specs.Block.{max-steps, is-32, size-of, emit-native, emit-term-helper, fetch, Walk, walked, in-front, helped, step, instr-walk, walk, FetchedOf, Compiled}
+use Rattle.jit_arm64.proofs.Emitting.{Appended, put, words-append, words-size, Apart, native-size, native-apart, helped-size, uncovered-size}
+use Rattle.jit_arm64.proofs.Fetching.{is-none, is-some}
 
--- an instruction has at most four bytes
-turn-length : (h : Host) (pc k : ℕ) (f : Fetched) → (turn h pc k f) .size ≤ 4
-unfolding turn instr16-turn instr-turn
-turn-length h pc k Missing = omega arith
-turn-length h pc k (Half w) = rw (← after-length (emit-native-instr16 (h .ebreak) pc w .flow) (emit-native-instr16 (h .ebreak) pc w) (emit-native-term-helper16 h pc w k) 2) (omega arith)
-turn-length h pc k (Word w) = rw (← after-length (emit-native-instr pc w (decode32 w) .flow) (emit-native-instr pc w (decode32 w)) (emit-native-term-helper32 h pc w (decode32 w) k) 4) (omega arith)
+-- the words that the end of a block may take
+unfoldable pub end-room : Stop → ℕ
+end-room Helper = 0
+end-room Ended = 2
+end-room Limit = 6
+end-room Uncovered = 6
+end-room NotFetched = 6
 
 -- len words of l are those of n instructions, and the next is at index i
 pub record Walking (h : Host) (guest : List ℕ) (start limit : ℕ) (l : List ℕ) (len i n : ℕ) : Type 0 where
@@ -43,100 +40,171 @@ pub record Walking (h : Host) (guest : List ℕ) (start limit : ℕ) (l : List �
   pub room : len ≤ 29 * n
   pub same : in-front calls (walk h guest start (limit - n) n i) ≡ walk h guest start limit 0 0
 
+-- len words of l are those of the walk w, which stopped after n instructions, at index i
+pub record AtEnd (slots start : ℕ) (w : Walk) (l : List ℕ) (len i n : ℕ) (why : Stop) : Type 0 where
+  pub holds : take len l ≡ words slots (w .calls)
+  pub count : n ≡ w .count
+  pub stop : why ≡ w .stop
+  pub pc : add start i ≡ w .pc
+  pub few : n ≤ max-steps
+  pub long : length l ≡ max-words
+  pub room : len + end-room why ≤ max-words
+
 pub begin : (h : Host) (guest : List ℕ) (start limit : ℕ) (l : List ℕ) → length l ≡ max-words → start < 2 ^ 64 → Walking h guest start limit l 0 0 0
 unfolding words flatten
 begin h guest start limit l long fits =
     let q : limit - 0 ≡ limit = omega arith in
     record { calls = []; long = long; holds = refl; fits = fits; upto = omega arith; near = omega arith; room = omega arith; same = rw q }
 
+-- a helper's emitter that did not take the instruction
+not-helped : (f : EmitFlow) (cs : List Call) (n pc : ℕ) → (f ≡ Terminate → ⊥) → helped f cs n pc ≡ walked cs n Uncovered pc
+unfolding helped
+not-helped Continue cs n pc other = refl
+not-helped None cs n pc other = refl
+not-helped Terminate cs n pc other = absurd (other refl)
+
 module _ {h : Host} {guest : List ℕ} {start limit : ℕ} {l : List ℕ} {len i n : ℕ} (small : limit ≤ max-steps)
     (v : Walking h guest start limit l len i n) where
-  abbrev Done : List ℕ → Walked → Type 0
-  Done l′ r = WalkedOf (h .slots) start (walk h guest start limit 0 0) l′ r
+  abbrev Done : List ℕ → ℕ → ℕ → ℕ → Stop → Type 0
+  Done l′ len′ i′ n′ why = AtEnd (h .slots) start (walk h guest start limit 0 0) l′ len′ i′ n′ why
 
-  pub at-limit : n ≡ limit → Done l (record { len = len; count = n; index = i; stop = Limit })
-  unfolding walk most-walked
+  -- the walk ends with the calls cs
+  ended : (cs : List Call) {l′ : List ℕ} {len′ : ℕ} (i′ n′ : ℕ) (why : Stop)
+      → in-front (v .calls) (walked cs n′ why (add start i′)) ≡ walk h guest start limit 0 0
+      → take len′ l′ ≡ words (h .slots) (v .calls ++ cs) → n′ ≤ max-steps → length l′ ≡ max-words → len′ + end-room why ≤ max-words → Done l′ len′ i′ n′ why
+  ended cs i′ n′ why e holds few long room =
+      rw (← e) (record { holds = holds; count = refl; stop = refl; pc = refl; few = few; long = long; room = room })
+
+  bare : take len l ≡ words (h .slots) (v .calls ++ [])
+  bare = v .holds ∙ ap (words (h .slots)) (sym (append-nil (v .calls)))
+
+  pub at-limit : n ≡ limit → Done l len i n Limit
+  unfolding walk end-room
   at-limit q =
       let z : limit - n ≡ 0 = omega arith in
-      let s = rw z at (v .same) in
       let u = v .room in
-      rw (← s) (record { long = v .long; holds = v .holds ∙ ap (words (h .slots)) (sym (append-nil (v .calls))); count = refl; stop = refl; pc = refl; few = omega arith; room = omega arith })
+      ended [] i n Limit (rw z at (v .same)) bare (omega arith) (v .long) (omega arith)
 
-  -- one turn, after which the words are l′
-  module _ {l′ : List ℕ} {r : Turned} (q : n ≡ limit → ⊥)
-      (turned : TurnedOf (h .slots) (turn h (add start i) n (fetch (add start i) guest (index start (add start i)))) l len l′ r) where
-    abbrev this : Turn
-    this = turn h (add start i) n (fetch (add start i) guest i)
-
-    t : TurnedOf (h .slots) this l len l′ r
-    t =
-        let f = v .near in
-        let u = v .upto in
-        rw (index-add start i (v .fits) (omega arith)) at turned
-
-    one : (o : Outcome) → r .outcome ≡ o → in-front (v .calls) (step o this start n i (walk h guest start (limit - suc n))) ≡ walk h guest start limit 0 0
+  -- what was fetched at the PC
+  module _ (q : n ≡ limit → ⊥) {pc : ℕ} (at : pc ≡ add start i) {r : Fetched} (found : FetchedOf (fetch pc guest (index start pc)) r) where
+    one : in-front (v .calls) (instr-walk h (fetch pc guest (index start pc)) start n i (walk h guest start (limit - suc n))) ≡ walk h guest start limit 0 0
     unfolding walk
-    one o e =
+    one =
         let u = v .upto in
+        let near = v .near in
         let more : limit - n ≡ suc (limit - suc n) = omega arith in
-        rw (← e, t .outcome) (rw more at (v .same))
+        let here : index start (add start i) ≡ i = index-add start i (v .fits) (omega arith) in
+        rw (at, here) (rw more at (v .same))
 
-    added : take (r .len) l′ ≡ words (h .slots) (v .calls ++ this .calls)
-    added = t .appended .holds ∙ ap (λ (ws : List ℕ). ws ++ words (h .slots) (this .calls)) (v .holds) ∙ sym (words-append (h .slots) (v .calls) (this .calls))
-
-    at-most : (o : Outcome) → r .outcome ≡ o → r .len ≤ len + most o
-    at-most o e =
-        let u = v .upto in
-        rw (← e, t .outcome) (omega (arith, t .appended .len, turn-words (h .slots) h (add start i) n (omega arith) (fetch (add start i) guest i)))
-
-    pub size-4 : r .size ≤ 4
-    size-4 = rw (t .size) (turn-length h (add start i) n (fetch (add start i) guest i))
-
-    next : n + 1 ≡ suc n
-    next = omega arith
-
-    pub on : r .outcome ≡ GoOn → Walking h guest start limit l′ (r .len) (i + r .size) (n + 1)
-    unfolding step most
-    on e =
-        let u = v .upto in
-        let f = v .near in
-        let m = v .room in
-        let k = size-4 in
-        let p : r .len ≤ len + 29 = at-most GoOn e in
-        record {
-          calls = v .calls ++ this .calls;
-          long = t .appended .long;
-          holds = added;
-          fits = v .fits;
-          upto = omega arith;
-          near = omega arith;
-          room = omega arith;
-          same = rw (t .size, append-assoc, next) (one GoOn e);
-        }
-
-    -- the walk ends here
-    ended : (o : Outcome) (count index : ℕ) (stop : Stop) → r .outcome ≡ o → n ≤ count → count ≤ n + 1 → 29 * 63 + most o ≤ most-walked stop
-        → step o this start n i (walk h guest start (limit - suc n)) ≡ walked (this .calls) count stop (add start index)
-        → Done l′ (record { len = r .len; count = count; index = index; stop = stop })
-    ended o count index stop e a b c d =
+    pub not-fetched : r .size ≡ 0 → Done l len i n NotFetched
+    unfolding instr-walk end-room
+    not-fetched z =
         let u = v .upto in
         let m = v .room in
-        let p = at-most o e in
-        let z = ap (in-front (v .calls)) (sym d) ∙ one o e in
-        rw (← z) (record { long = t .appended .long; holds = added; count = refl; stop = refl; pc = refl; few = omega arith; room = omega arith })
+        ended [] i n NotFetched (rw (is-none _ r (found .found) z) at one) bare (omega arith) (v .long) (omega arith)
 
-    pub by-end : r .outcome ≡ End → Done l′ (record { len = r .len; count = n + 1; index = i + r .size; stop = Ended })
-    unfolding step most most-walked
-    by-end e = ended End (n + 1) (i + r .size) Ended e (omega arith) (omega arith) (omega arith) (rw (t .size, next))
+    -- an instruction
+    module _ (some : r .size ≡ 0 → ⊥) where
+      abbrev e : Emission
+      e = emit-native h pc (r .instr)
 
-    pub by-help : r .outcome ≡ Help → Done l′ (record { len = r .len; count = n + 1; index = i; stop = Helper })
-    unfolding step most most-walked
-    by-help e = ended Help (n + 1) i Helper e (omega arith) (omega arith) (omega arith) (rw next)
+      abbrev helper : Emission
+      helper = emit-term-helper h pc (r .instr) n
 
-    pub by-pass : r .outcome ≡ Pass → Done l′ (record { len = r .len; count = n; index = i; stop = Uncovered })
-    unfolding step most most-walked
-    by-pass e = ended Pass n i Uncovered e (omega arith) (omega arith) (omega arith) refl
+      size-is : r .size ≡ size-of (r .instr)
+      size-is = is-some _ r (found .found) some .1
 
-    pub by-lack : r .outcome ≡ Lack → Done l′ (record { len = r .len; count = n; index = i; stop = NotFetched })
-    unfolding step most most-walked
-    by-lack e = ended Lack n i NotFetched e (omega arith) (omega arith) (omega arith) refl
+      pub size-4 : r .size ≤ 4
+      size-4 = by (is-32 (r .instr)) (λ t. rw (size-is, t) (omega arith)) (λ t. rw (size-is, t) (omega arith))
+
+      stepped : (f : EmitFlow) → e .flow ≡ f
+          → in-front (v .calls) (step f e helper (r .size) start n i (walk h guest start (limit - suc n))) ≡ walk h guest start limit 0 0
+      unfolding instr-walk
+      stepped f t = rw (← t, size-is, at) (rw (is-some _ r (found .found) some .0) at one)
+
+      next : n + 1 ≡ suc n
+      next = omega arith
+
+      -- its words cs, appended
+      module _ (cs : List Call) {l′ : List ℕ} {len′ : ℕ} {ws : List ℕ} (alone : ws ≡ words (h .slots) cs) (added : Added max-words l len l′ len′ ws) where
+        appended : length (words (h .slots) cs) ≤ 30 → Appended l len l′ len′ (words (h .slots) cs)
+        appended few =
+            let u = v .upto in
+            let m = v .room in
+            put (v .long) (omega arith) (rw alone at added)
+
+        more : length (words (h .slots) cs) ≤ 30 → take len′ l′ ≡ words (h .slots) (v .calls ++ cs)
+        more few = appended few .holds ∙ ap (λ (us : List ℕ). us ++ words (h .slots) cs) (v .holds) ∙ sym (words-append (h .slots) (v .calls) cs)
+
+      -- inline words
+      module _ {out : Emitted} (c : Compiled (h .slots) (e .calls) (e .flow) out) {l′ : List ℕ} {len′ : ℕ} (added : Added max-words l len l′ len′ (held (out .em))) where
+        few : length (words (h .slots) (e .calls)) ≤ 29
+        few = omega (arith, words-size (h .slots) (e .calls), native-size (h .slots) h pc (r .instr))
+
+        pub on : out .flow ≡ Continue → Walking h guest start limit l′ len′ (i + r .size) (n + 1)
+        unfolding step
+        on t =
+            let u = v .upto in
+            let f = v .near in
+            let m = v .room in
+            let k = size-4 in
+            let w = few in
+            let a = appended (e .calls) (c .holds) added (omega arith) in
+            let p = a .len in
+            record {
+              calls = v .calls ++ e .calls;
+              long = a .long;
+              holds = more (e .calls) (c .holds) added (omega arith);
+              fits = v .fits;
+              upto = omega arith;
+              near = omega arith;
+              room = omega arith;
+              same = rw (append-assoc, next) (stepped Continue (sym (c .flow) ∙ t));
+            }
+
+        pub by-end : out .flow ≡ Terminate → Done l′ len′ (i + r .size) (n + 1) Ended
+        unfolding step end-room
+        by-end t =
+            let u = v .upto in
+            let m = v .room in
+            let w = few in
+            let a = appended (e .calls) (c .holds) added (omega arith) in
+            let p = a .len in
+            ended (e .calls) (i + r .size) (n + 1) Ended (rw next (stepped Terminate (sym (c .flow) ∙ t))) (more (e .calls) (c .holds) added (omega arith))
+            (omega arith) (a .long) (omega arith)
+
+      -- what the inline emitter left, and the helper's words
+      module _ {out left : Emitted} (i₀ : Compiled (h .slots) (e .calls) (e .flow) left) (none : left .flow ≡ None)
+          (c : Compiled (h .slots) (e .calls ++ helper .calls) (helper .flow) out) {l′ : List ℕ} {len′ : ℕ} (added : Added max-words l len l′ len′ (held (out .em))) where
+        abbrev both : List Call
+        both = e .calls ++ helper .calls
+
+        not-inline : e .flow ≡ None
+        not-inline = sym (i₀ .flow) ∙ none
+
+        apart : Apart (h .slots) e helper
+        apart = let u = v .upto in native-apart (h .slots) h pc (r .instr) n (omega arith)
+
+        pub by-helper : out .flow ≡ Terminate → Done l′ len′ i (n + 1) Helper
+        unfolding step helped end-room
+        by-helper t =
+            let k = v .upto in
+            let m = v .room in
+            let w : length (words (h .slots) both) ≤ 30 =
+            omega (arith, words-size (h .slots) both, helped-size (h .slots) e helper (native-size (h .slots) h pc (r .instr)) apart) in
+            let a = appended both (c .holds) added w in
+            let p = a .len in
+            ended both i (n + 1) Helper (rw next (rw (sym (c .flow) ∙ t) at (stepped None not-inline))) (more both (c .holds) added w) (omega arith) (a .long) (omega arith)
+
+        pub uncovered : (out .flow ≡ Terminate → ⊥) → Done l′ len′ i n Uncovered
+        unfolding step end-room
+        uncovered t =
+            let k = v .upto in
+            let m = v .room in
+            let other : helper .flow ≡ Terminate → ⊥ = λ u. t (c .flow ∙ u) in
+            let w : length (words (h .slots) both) ≤ 29 =
+            omega (arith, words-size (h .slots) both, uncovered-size (h .slots) e helper (native-size (h .slots) h pc (r .instr)) apart other) in
+            let a = appended both (c .holds) added (omega arith) in
+            let p = a .len in
+            ended both i n Uncovered (rw (not-helped (helper .flow) both n (add start i) other) at (stepped None not-inline)) (more both (c .holds) added (omega arith))
+            (omega arith) (a .long) (omega arith)

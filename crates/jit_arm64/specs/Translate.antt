@@ -1,20 +1,19 @@
 -- Operation Translate of document 01: its refusals in their order, the answer's numbers and the output bytes.
-use Prim.Native.Nat.{ℕ, _+_, _*_, _%_}
-use mathlib.Core.Bool.{Bool, true, false, cond, not, _&&_, _||_}
-use mathlib.Core.List.{List, [], _∷_, _++_}
+use Prim.Native.Nat.{ℕ, _%_}
+use mathlib.Core.Bool.{Bool, true, false, cond, not, _||_}
+use mathlib.Core.List.{List, _++_}
+use mathlib.Core.Option.{Option, none, some}
 use lib.ListN.{length, drop}
-use lib.Dec.{eqb, leb, ltb}
+use lib.Dec.{eqb, ltb}
 use Rattle.a64.specs.Emitter.{bytes}
 use Rattle.emit_native.specs.declared.Host.{Host}
+use Rattle.emit_native.specs.declared.EmitFlow.{EmitFlow}
+use Rattle.emit_native.specs.declared.EmitFlow.the-variants.{Continue, Terminate, None}
 use Rattle.jit_arm64.specs.declared.Answer.{Answer}
-use Rattle.jit_arm64.specs.declared.fetch.Fetched.{Fetched}
-use Rattle.jit_arm64.specs.declared.fetch.Fetched.the-variants.{Missing, Half, Word}
-use Rattle.jit_arm64.specs.declared.block.Outcome.{Outcome}
-use Rattle.jit_arm64.specs.declared.block.Outcome.the-variants.{GoOn, End, Help, Pass, Lack}
 use Rattle.jit_arm64.specs.declared.block.Stop.{Stop}
 use Rattle.jit_arm64.specs.declared.block.Stop.the-variants.{Limit, Ended, Helper, Uncovered, NotFetched}
 use Rattle.emit_native.specs.Calls.{words}
-use Rattle.jit_arm64.specs.Block.{Walk, fetch, turn, block-calls, whole-walk}
+use Rattle.jit_arm64.specs.Block.{fetch, emit-native, emit-term-helper, block-calls, whole-walk}
 
 -- what the caller gives: the slot offset, the three helpers' addresses, and whether C.EBREAK is ignored
 abbrev pub host : ℕ → ℕ → ℕ → ℕ → Bool → Host
@@ -29,26 +28,21 @@ abbrev pub bad-slots : ℕ → Bool
 bad-slots slots = not (eqb (slots % 8) 0) || ltb max-slots slots
 
 -- refusal 4: the first instruction lacks a halfword
-unfoldable pub is-missing : Fetched → Bool
-is-missing Missing = true
-is-missing (Half w) = false
-is-missing (Word w) = false
+unfoldable pub is-missing : Option ℕ → Bool
+is-missing none = true
+is-missing (some instr) = false
 
--- refusal 5: it is neither inline nor a helper's
-unfoldable pub is-uncovered : Outcome → Bool
-is-uncovered GoOn = false
-is-uncovered End = false
-is-uncovered Help = false
-is-uncovered Pass = true
-is-uncovered Lack = false
+-- refusal 5: it is neither inline nor a helper's, by the flows of the two emitters
+unfoldable pub neither : EmitFlow → EmitFlow → Bool
+neither Continue f = false
+neither Terminate f = false
+neither None Terminate = false
+neither None Continue = true
+neither None None = true
 
--- refusal 4 or 5, by why the walk stopped at the first instruction
-unfoldable pub at-first : Stop → ℕ
-at-first NotFetched = 4
-at-first Limit = 5
-at-first Ended = 5
-at-first Helper = 5
-at-first Uncovered = 5
+unfoldable pub is-uncovered : Host → ℕ → Option ℕ → Bool
+is-uncovered h pc none = false
+is-uncovered h pc (some instr) = neither ((emit-native h pc instr) .flow) ((emit-term-helper h pc instr 0) .flow)
 
 -- the bytes of the block
 unfoldable pub block-bytes : Host → List ℕ → ℕ → ℕ → List ℕ
@@ -61,7 +55,7 @@ refusal h guest pc limit room =
     (cond (eqb limit 0) 2
     (cond (eqb (pc % 2) 1) 3
     (cond (is-missing (fetch pc guest 0)) 4
-    (cond (is-uncovered ((turn h pc 0 (fetch pc guest 0)) .outcome)) 5
+    (cond (is-uncovered h pc (fetch pc guest 0)) 5
     (cond (ltb room (length (block-bytes h guest pc limit))) 6
     0)))))
 

@@ -2,8 +2,7 @@
 ghost use mathlib.Core.Path.{_≡_};
 ghost use mathlib.Core.Bool.{false};
 ghost use lib.ListN.{length};
-ghost use Rattle.jit_arm64.specs.Translate.{host, bad-slots, refused, at-first, by-helper, translate, output-after};
-use a64::MAX_WORDS;
+ghost use Rattle.jit_arm64.specs.Translate.{host, bad-slots, refused, by-helper, translate, output-after};
 use block::Stop;
 use emit_native::Host;
 
@@ -26,19 +25,6 @@ fn refuse(n: u32) -> Answer
         length: 0,
         count: 0,
         helper: 0,
-    }
-}
-
-// Why a walk that emitted no instruction is refused.
-fn at_first(stop: Stop) -> u32
-    ensures { λ r. ⌜ r ≡ at-first stop ⌝ }
-{
-    match stop {
-        Stop::NotFetched => 4,
-        Stop::Limit => 5,
-        Stop::Ended => 5,
-        Stop::Helper => 5,
-        Stop::Uncovered => 5,
     }
 }
 
@@ -66,17 +52,18 @@ fn translate_for(guest: &[u8], pc: u64, limit: u32, host: Host, output: &mut [u8
     if pc % 2 == 1 {
         return refuse(3);
     }
-    let mut words = [0u32; MAX_WORDS];
-    let found = block::compile_native_block(&mut words, guest, pc, limit, host);
+    let first = block::first_refusal(guest, pc, host);
+    if first != 0 {
+        return refuse(first);
+    }
+    let found = block::compile_native_block(guest, pc, limit, host);
     let count = found.count;
     let stop = found.stop;
-    if count == 0 {
-        return refuse(at_first(stop));
-    }
-    if output.len() < 4 * found.len {
+    let em = found.em;
+    let length = em.finish(output);
+    if output.len() < length {
         return refuse(6);
     }
-    let length = a64::write_words(&words, found.len, output);
     Answer {
         refusal: 0,
         length: length as u32,

@@ -1,38 +1,31 @@
--- One turn of the loop: its words, and how many there are. Assumes nothing.
-use Prim.Native.Nat.{ℕ, _+_, _*_, _/_, _%_, _^_, _≤_, _<_, min}
+-- One instruction's words, and how many there are. Assumes nothing.
+use Prim.Native.Nat.{ℕ, _+_, _%_, _≤_, _<_, min}
 use native.Mathlib.Omega.{arith}
 use mathlib.Core.Path.{_≡_, refl, sym, ap, _∙_}
-use mathlib.Core.Bool.{Bool, true, false, cond, _||_}
+use mathlib.Core.Bool.{Bool, true, false}
 use mathlib.Core.Logic.{_⊎_, inl, inr}
 use mathlib.Core.List.{List, [], _∷_, _++_, append-assoc, append-nil, map-append, flatten}
-use mathlib.Core.Option.{Option}
 use lib.Dec.{eqb}
 use lib.ListN.{length, take, length-append, length-take}
-use borrow.Author.Tests.{eqb-true}
+use borrow.Author.Tests.{eqb-true, eq-eqb, ne-eqb}
 use Rattle.a64.specs.declared.Form.{Form}
 use Rattle.a64.specs.Forms.{encode}
-use Rattle.a64.specs.Emitter.{max-words, held, encoded, emitted-all, halfword, constant, upper, Added}
+use Rattle.a64.specs.Emitter.{max-words, held, encoded, halfword, constant, Added}
 use Rattle.a64.proofs.Emission.{constant-length, upper-none, emitted-all-new, emitted-fits, length-encoded}
 use Rattle.isa.specs.declared.decode.Decoded32.{Decoded32}
-use Rattle.emit_native.specs.declared.EmitFlow.{EmitFlow}
-use Rattle.emit_native.specs.declared.EmitFlow.the-variants.{Continue, Terminate, None}
+use Rattle.emit_native.specs.declared.EmitFlow.the-variants.{Terminate}
 use Rattle.emit_native.specs.declared.Emitted.{Emitted}
 use Rattle.emit_native.specs.declared.Host.{Host}
-use Rattle.jit_arm64.specs.declared.fetch.Fetched.{Fetched}
-use Rattle.jit_arm64.specs.declared.fetch.Fetched.the-variants.{Missing, Half, Word}
-use Rattle.jit_arm64.specs.declared.block.Outcome.{Outcome}
-use Rattle.jit_arm64.specs.declared.block.Outcome.the-variants.{GoOn, End, Help, Pass, Lack}
 use Rattle.emit_native.specs.Isa.{OPCODE-LOAD, OPCODE-STORE, OPCODE-LOAD-FP, OPCODE-STORE-FP, OPCODE-SYSTEM, OPCODE-AMO, F3-LB, F3-LH, F3-LW, F3-LD, F3-LBU, F3-LHU, F3-LWU, F3-SB, F3-SH, F3-SW, F3-SD}
 use Rattle.emit_native.specs.Decode.{decode32, c-op, c-funct3, imm-i, imm-s}
-use Rattle.emit_native.specs.Calls.{Call, emit, mov-imm64, load, forms, groups, words, if-not-0, Emission, Emits, none, terminate, add-x, ldr-x, str-x, mov-x, sub-sp-imm, add-sp-imm, blr, ret}
+use Rattle.emit_native.specs.Calls.{Call, emit, mov-imm64, load, forms, groups, words, if-not-0, Emission, Emits, none, add-x, ldr-x, str-x, mov-x, sub-sp-imm, add-sp-imm, blr, ret}
 use Rattle.emit_native.specs.Instr16.{emit-native-instr16, quadrant-0, quadrant-2}
 use Rattle.emit_native.specs.Instr32.{emit-native-instr}
 use Rattle.emit_native.specs.TermHelper.{call-helper, call-exec, load-calls, store-calls, load-helper, store-helper, load-op, store-op, opcode-helper, memory-funct3, supports, emit-native-term-helper16, emit-native-term-helper32}
-use Rattle.jit_arm64.specs.declared.block.Turned.{Turned}
-use Rattle.jit_arm64.specs.Block.{turn, after, help-turn, none-outcome, instr16-turn, instr-turn, turned, Appended, TurnedOf}
-use Rattle.emit_native.proofs.Size.{size, size-append, size-le, if-size, by, Within, instr-size, instr16-size}
+use Rattle.emit_native.proofs.Size.{size, size-append, size-le, if-size, by, instr-size, instr16-size}
+use Rattle.jit_arm64.specs.Block.{is-32, emit-native, emit-term-helper, Compiled}
 
--- ---- words behind others
+-- ---- words after others
 
 pub forms-append : (slots : ℕ) (cs ds : List Call) → flatten (groups slots (cs ++ ds)) ≡ flatten (groups slots cs) ++ flatten (groups slots ds)
 unfolding flatten
@@ -45,31 +38,39 @@ pub words-append : (slots : ℕ) (cs ds : List Call) → words slots (cs ++ ds) 
 unfolding words
 words-append slots cs ds = ap encoded (forms-append slots cs ds) ∙ map-append encode (flatten (groups slots cs)) (flatten (groups slots ds))
 
+-- the words ws after the first n of l: then the first r of l′
+pub record Appended (l : List ℕ) (n : ℕ) (l′ : List ℕ) (r : ℕ) (ws : List ℕ) : Type 0 where
+  pub long : length l′ ≡ max-words
+  pub holds : take r l′ ≡ take n l ++ ws
+  pub len : r ≡ n + length ws
+
 -- they all fit
-pub put : (l : List ℕ) (n : ℕ) (l′ : List ℕ) (r : ℕ) (ws : List ℕ) → length l ≡ max-words → n + length ws ≤ max-words → Added max-words l n l′ r ws → Appended l n l′ r ws
-put l n l′ r ws long room added =
+pub put : {l l′ : List ℕ} {n r : ℕ} {ws : List ℕ} → length l ≡ max-words → n + length ws ≤ max-words → Added max-words l n l′ r ws → Appended l n l′ r ws
+put {l} {l′} {n} {r} {ws} long room added =
     let b : length (take n l) ≡ n = rw long at (length-take n l) ∙ (omega arith) in
     let h : take r l′ ≡ take n l ++ ws = added .holds ∙ emitted-fits max-words (take n l) ws (omega arith) in
     let k : min r max-words ≡ length (take n l) + length ws = sym (rw (added .long) at (length-take r l′)) ∙ ap length h ∙ length-append (take n l) ws in
     let m : r ≤ max-words = added .room (omega arith) in
-    record { long = added .long; holds = h; len = omega arith; room = m }
+    record { long = added .long; holds = h; len = omega arith }
 
-pub behind : {l l′ l″ : List ℕ} {n m r : ℕ} {us vs : List ℕ} → Appended l n l′ m us → Appended l′ m l″ r vs → Appended l n l″ r (us ++ vs)
-behind {l} {n = n} {us = us} {vs = vs} a b =
-    record {
-      long = b .long;
-      holds = b .holds ∙ rw (a .holds) (append-assoc (take n l) us vs);
-      len = omega (arith, a .len, b .len, length-append us vs);
-      room = b .room;
-    }
+-- ---- the emitters by the width
 
--- the most words of a turn, by what came of it
-unfoldable pub most : Outcome → ℕ
-most GoOn = 29
-most End = 29
-most Help = 30
-most Pass = 29
-most Lack = 29
+module _ (h : Host) (pc instr : ℕ) where
+  pub native16 : (low : ℕ) → low ≡ instr → (instr % 4 ≡ 3 → ⊥) → emit-native h pc instr ≡ emit-native-instr16 (h .ebreak) pc low
+  unfolding emit-native
+  native16 low e n = rw (ne-eqb (instr % 4) 3 n, e) refl
+
+  pub native32 : (d : Decoded32) → d ≡ decode32 instr → instr % 4 ≡ 3 → emit-native h pc instr ≡ emit-native-instr pc instr d
+  unfolding emit-native
+  native32 d e n = rw (eq-eqb (instr % 4) 3 n, e) refl
+
+  pub helper16 : (k low : ℕ) → low ≡ instr → (instr % 4 ≡ 3 → ⊥) → emit-term-helper h pc instr k ≡ emit-native-term-helper16 h pc low k
+  unfolding emit-term-helper
+  helper16 k low e n = rw (ne-eqb (instr % 4) 3 n, e) refl
+
+  pub helper32 : (k : ℕ) (d : Decoded32) → d ≡ decode32 instr → instr % 4 ≡ 3 → emit-term-helper h pc instr k ≡ emit-native-term-helper32 h pc instr d k
+  unfolding emit-term-helper
+  helper32 k d e n = rw (eq-eqb (instr % 4) 3 n, e) refl
 
 -- ---- a helper's call
 
@@ -231,84 +232,56 @@ module _ (slots : ℕ) where
 
   -- ---- one instruction, emitted by itself
 
-  helper-size : (e helper : Emission) → Apart e helper → size slots (helper .calls) ≤ 30
-  unfolding flatten
-  helper-size e helper (inl a) = rw a (omega arith)
-  helper-size e helper (inr a) = a .2
-
-  -- how many words the inline part leaves room for
-  both-size : (e helper : Emission) → size slots (e .calls) ≤ 29 → Apart e helper → size slots (e .calls) + size slots (helper .calls) ≤ 30
-  unfolding flatten
-  both-size e helper l (inl a) = rw a (omega arith)
-  both-size e helper l (inr a) = let k = a .2 in rw (a .0) (omega arith)
-
-  pub helper16-size : (h : Host) (pc instr k : ℕ) → k < 65536 → size slots (emit-native-term-helper16 h pc instr k .calls) ≤ 30
-  helper16-size h pc instr k b = helper-size _ _ (apart16 h pc instr k b)
-
-  pub helper32-size : (h : Host) (pc instr k : ℕ) → k < 65536 → size slots (emit-native-term-helper32 h pc instr (decode32 instr) k .calls) ≤ 30
-  helper32-size h pc instr k b = helper-size _ _ (apart32 h pc instr (decode32 instr) k b (omega arith))
-
   pub words-size : (cs : List Call) → length (words slots cs) ≡ size slots cs
   unfolding words
   words-size cs = length-encoded (flatten (groups slots cs))
 
-  -- what an emitter's words are, from a new one
-  pub alone : (h : List ℕ) (e : Emission) (out : Emitted) → h ≡ [] → Emits slots h e out → size slots (e .calls) ≤ 30 → held (out .em) ≡ words slots (e .calls)
+  -- at most 29 words inline, and a helper's call apart from them
+  pub native-size : (h : Host) (pc instr : ℕ) → size slots (emit-native h pc instr .calls) ≤ 29
+  unfolding emit-native
+  native-size h pc instr =
+      by (is-32 instr)
+      (λ t. rw t (instr-size slots pc instr (decode32 instr) .within))
+      (λ t. rw t (instr16-size slots (h .ebreak) pc instr .within))
+
+  pub native-apart : (h : Host) (pc instr k : ℕ) → k < 65536 → Apart (emit-native h pc instr) (emit-term-helper h pc instr k)
+  unfolding emit-native emit-term-helper
+  native-apart h pc instr k b =
+      by (is-32 instr) (λ t. rw t (apart32 h pc instr (decode32 instr) k b (omega arith))) (λ t. rw t (apart16 h pc instr k b))
+
+  -- from a new emitter
+  pub alone : (h : List ℕ) (e : Emission) (out : Emitted) → h ≡ [] → Emits slots h e out → size slots (e .calls) ≤ 29 → held (out .em) ≡ words slots (e .calls)
   unfolding words
   alone h e out new emits few = emits .words ∙ emitted-all-new h (groups slots (e .calls)) new (omega arith)
 
-  module _ (e helper : Emission) (n : ℕ) {l l′ : List ℕ} {at len : ℕ} (few : size slots (e .calls) ≤ 29) (apart : Apart e helper)
-      (low : at ≤ 29 * 63) (long : length l ≡ max-words) {ws : List ℕ} (alone : ws ≡ words slots (e .calls)) (added : Added max-words l at l′ len ws) where
-    inline : Appended l at l′ len (words slots (e .calls))
-    inline = put l at l′ len (words slots (e .calls)) long (omega (arith, words-size (e .calls))) (rw alone at added)
-
-    pub goes-on : e .flow ≡ Continue → TurnedOf slots (after (e .flow) e helper n) l at l′ (record { len = len; size = n; outcome = GoOn })
-    unfolding after
-    goes-on t = rw t (record { appended = inline; size = refl; outcome = refl })
-
-    pub ends : e .flow ≡ Terminate → TurnedOf slots (after (e .flow) e helper n) l at l′ (record { len = len; size = n; outcome = End })
-    unfolding after
-    ends t = rw t (record { appended = inline; size = refl; outcome = refl })
-
-    -- the helper's words fit behind
-    pub fits : len + length (words slots (helper .calls)) ≤ max-words
-    fits = omega (arith, both-size e helper few apart, words-size (e .calls), words-size (helper .calls), inline .len)
-
-    pub helps : e .flow ≡ None → {l″ : List ℕ} {r : Turned} → TurnedOf slots (help-turn helper n) l′ len l″ r → TurnedOf slots (after (e .flow) e helper n) l at l″ r
-    unfolding after
-    helps t u = rw t (record { appended = rw (words-append slots (e .calls) (helper .calls)) (behind inline (u .appended)); size = u .size; outcome = u .outcome })
-
-  -- how many words a turn adds
-  after-size : (e helper : Emission) (n : ℕ) → size slots (e .calls) ≤ 29 → Apart e helper → (f : EmitFlow) → e .flow ≡ f
-      → size slots ((after f e helper n) .calls) ≤ most ((after f e helper n) .outcome)
-  unfolding after most none-outcome flatten
-  after-size e helper n l a Continue t = l
-  after-size e helper n l a Terminate t = l
-  after-size e helper n l (inl a) None t = rw a (omega (arith, size-append slots (e .calls) []))
-  after-size e helper n l (inr a) None t = rw (a .0, a .1) (a .2)
-
-  turn-size : (h : Host) (pc k : ℕ) → k < 65536 → (f : Fetched) → size slots ((turn h pc k f) .calls) ≤ most ((turn h pc k f) .outcome)
-  unfolding turn instr16-turn instr-turn most flatten
-  turn-size h pc k b Missing = omega arith
-  turn-size h pc k b (Half w) =
-      let e = emit-native-instr16 (h .ebreak) pc w in
-      after-size e (emit-native-term-helper16 h pc w k) 2 (instr16-size slots (h .ebreak) pc w .within) (apart16 h pc w k b) (e .flow) refl
-  turn-size h pc k b (Word w) =
-      let e = emit-native-instr pc w (decode32 w) in
-      after-size e (emit-native-term-helper32 h pc w (decode32 w) k) 4 (instr-size slots pc w (decode32 w) .within)
-      (apart32 h pc w (decode32 w) k b (omega arith)) (e .flow) refl
-
-  pub turn-words : (h : Host) (pc k : ℕ) → k < 65536 → (f : Fetched) → length (words slots ((turn h pc k f) .calls)) ≤ most ((turn h pc k f) .outcome)
-  turn-words h pc k b f = omega (arith, words-size ((turn h pc k f) .calls), turn-size h pc k b f)
-
-  -- nothing behind the first n of l
-  pub lacking : (l : List ℕ) (n : ℕ) → length l ≡ max-words → n ≤ max-words → TurnedOf slots (turned [] 0 Lack) l n l (record { len = n; size = 0; outcome = Lack })
+  -- from what the inline emitter left
+  pub handed-on : (e helper : Emission) (left : List ℕ) (out : Emitted) → Apart e helper → left ≡ words slots (e .calls) → Emits slots left helper out
+      → held (out .em) ≡ words slots (e .calls ++ helper .calls)
   unfolding words flatten
-  lacking l n long low = record { appended = record { long = long; holds = sym (append-nil (take n l)); len = omega arith; room = low }; size = refl; outcome = refl }
+  handed-on e helper left out (inl a) q emits = rw a at (emits .words) ∙ q ∙ rw (a, append-nil (e .calls))
+  handed-on e helper left out (inr a) q emits =
+      rw (a .0) (emits .words ∙ emitted-all-new left (groups slots (helper .calls)) (q ∙ rw (a .0)) (a .2))
 
--- an instruction's length
-pub after-length : (f : EmitFlow) (e helper : Emission) (n : ℕ) → n ≡ (after f e helper n) .size
-unfolding after
-after-length Continue e helper n = refl
-after-length Terminate e helper n = refl
-after-length None e helper n = refl
+  -- what the code's emitters answer
+  pub compiled : (h : Host) (pc instr : ℕ) {e : Emission} {new : List ℕ} {out : Emitted} → emit-native h pc instr ≡ e → new ≡ [] → Emits slots new e out
+      → Compiled slots (emit-native h pc instr .calls) (emit-native h pc instr .flow) out
+  compiled h pc instr {e} {new} {out} q n emits =
+      let few = rw q at (native-size h pc instr) in
+      rw q (record { holds = alone new e out n emits few; flow = emits .flow })
+
+  pub compiled-helper : (h : Host) (pc instr k : ℕ) {helper : Emission} {left : List ℕ} {out : Emitted} → k < 65536 → emit-term-helper h pc instr k ≡ helper
+      → left ≡ words slots (emit-native h pc instr .calls) → Emits slots left helper out
+      → Compiled slots (emit-native h pc instr .calls ++ emit-term-helper h pc instr k .calls) (emit-term-helper h pc instr k .flow) out
+  compiled-helper h pc instr k {helper} {left} {out} b q l emits =
+      let a = rw q at (native-apart h pc instr k b) in
+      rw q (record { holds = handed-on (emit-native h pc instr) helper left out a l emits; flow = emits .flow })
+
+  -- the words of an instruction that a helper takes, and of one that is not covered
+  pub helped-size : (e helper : Emission) → size slots (e .calls) ≤ 29 → Apart e helper → size slots (e .calls ++ helper .calls) ≤ 30
+  unfolding flatten
+  helped-size e helper few (inl a) = rw (a, append-nil (e .calls)) (omega arith)
+  helped-size e helper few (inr a) = rw (a .0) (a .2)
+
+  pub uncovered-size : (e helper : Emission) → size slots (e .calls) ≤ 29 → Apart e helper → (helper .flow ≡ Terminate → ⊥) → size slots (e .calls ++ helper .calls) ≤ 29
+  uncovered-size e helper few (inl a) other = rw (a, append-nil (e .calls)) few
+  uncovered-size e helper few (inr a) other = absurd (other (a .1))

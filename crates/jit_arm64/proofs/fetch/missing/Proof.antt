@@ -1,0 +1,12 @@
+use mathlib.Core.Path.{refl}
+use borrow.Author.Needs.{needs}
+use Rattle.jit_arm64.specs.Block.{fetched}
+use Rattle.jit_arm64.proofs.fetch.missing.Statement.{statement}
+use Rattle.jit_arm64.proofs.fetch.missing.Tie as tie
+
+returns : tie.Need-returns
+unfolding fetched
+returns c = refl
+
+pub missing-spec : {M : Type 1} → statement M
+missing-spec = tie.close (tie.spec returns)
