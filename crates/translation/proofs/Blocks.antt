@@ -26,8 +26,6 @@ use Rattle.rv64.specs.Compressed as RC
 use Rattle.rv64.specs.Run as R
 use Rattle.emit_native.specs.declared.EmitFlow.{EmitFlow}
 use Rattle.emit_native.specs.declared.Host as JH
-use Rattle.jit_arm64.specs.declared.fetch.Fetched.{Fetched}
-use Rattle.jit_arm64.specs.declared.block.Outcome.{Outcome}
 use Rattle.jit_arm64.specs.declared.block.Stop.{Stop}
 use Rattle.emit_native.specs.Calls.{Call, emit, mov-imm64, Emission}
 use Rattle.emit_native.specs.Calls as JC
@@ -36,7 +34,7 @@ use Rattle.emit_native.specs.Decode as JD
 use Rattle.emit_native.specs.Instr16 as E16
 use Rattle.emit_native.specs.Instr32 as E32
 use Rattle.emit_native.specs.TermHelper as TH
-use Rattle.jit_arm64.specs.Block.{Turn, Walk, walked, in-front, none-outcome, after, instr16-turn, instr-turn, turn, step, walk, fetch, fetch-upper}
+use Rattle.jit_arm64.specs.Block.{Walk, walked, in-front, emit-native, emit-term-helper, helped, step, instr-walk, walk, fetch, fetch-upper}
 use Rattle.jit_arm64.specs.Translate.{by-helper}
 use Rattle.translation.proofs.Calls.{Host, form-step, call-step, calls-run, scratch, fits, keeps, all-fit, all-keep, AllIn, Kept, calls-kept, is-true}
 use Rattle.translation.proofs.Instrs.{run-append, keep-append, fit-append, in-append, Fine, Does, Continues, Terminates, Leaves, Matches, Agrees, nothing}
@@ -170,20 +168,20 @@ module _ (r₀ : ℕ → ℕ) (start : ℕ) where
       (u : Host) → Kept r₀ true u → getD (u .slots) 0 0 ≡ 0 → by-helper (w .stop) ≡ 0 → Walks w u (run (R.hart (u .slots) (add start i)))
 
   helped-walks : (e h : Emission) (size i n : ℕ) (why : RS.Stop) (v : Host) (rest : ℕ → ℕ → Walk) → Quiet h → Fine (e .calls)
-      → by-helper (step (after EmitFlow.None e h size .outcome) (after EmitFlow.None e h size) start n i rest .stop) ≡ 0
-      → Walks (step (after EmitFlow.None e h size .outcome) (after EmitFlow.None e h size) start n i rest) v (R.stopped (R.hart (v .slots) (add start i)) n why)
-  unfolding after none-outcome step by-helper next-calls
+      → by-helper (step EmitFlow.None e h size start n i rest .stop) ≡ 0
+      → Walks (step EmitFlow.None e h size start n i rest) v (R.stopped (R.hart (v .slots) (add start i)) n why)
+  unfolding step helped by-helper next-calls
   helped-walks e h size i n why v rest (inl p) φ free = absurd (omega (arith, rw p at free))
   helped-walks e h size i n why v rest (inr p) φ free =
       rw (p, append-nil (e .calls)) (stop-walks (e .calls) n (add start i) Stop.Uncovered why v refl φ (omega arith))
 
-  turn-walks : (f : Flow) (x : List ℕ) (e h : Emission) (size i n : ℕ) (v : Host) (rest : ℕ → ℕ → Walk) (run : Hart → Ran)
+  step-walks : (f : Flow) (x : List ℕ) (e h : Emission) (size i n : ℕ) (v : Host) (rest : ℕ → ℕ → Walk) (run : Hart → Ran)
       → Quiet h → Matches size (add start i) v x f e → Stays f x (v .slots) → getD x 0 0 ≡ 0 → Kept r₀ true v
       → Follows (i + size) (rest (suc n) (i + size)) run
-      → by-helper (step (after (e .flow) e h size .outcome) (after (e .flow) e h size) start n i rest .stop) ≡ 0
-      → Walks (step (after (e .flow) e h size .outcome) (after (e .flow) e h size) start n i rest) v (R.onward f x (add start i) n run)
-  unfolding after step R.onward next-calls
-  turn-walks (Flow.Next to) x e h size i n v rest run hq m st z κ go free =
+      → by-helper (step (e .flow) e h size start n i rest .stop) ≡ 0
+      → Walks (step (e .flow) e h size start n i rest) v (R.onward f x (add start i) n run)
+  unfolding step R.onward next-calls
+  step-walks (Flow.Next to) x e h size i n v rest run hq m st z κ go free =
       let cs = e .calls in
       let stay : all-keep true cs ≡ true = is-true (all-keep true cs) (m .stay) in
       let κ′ : Kept r₀ true (calls-run cs v) = rw stay at (calls-kept r₀ cs true v (m .does .fit) (m .does .range) κ) in
@@ -200,35 +198,35 @@ module _ (r₀ : ℕ → ℕ) (start : ℕ) where
         next = rw q (ap (λ (u : Host). u .r 0) (run-append cs _ v) ∙ y .next);
         count = y .count;
       })
-  turn-walks (Flow.Ended to) x e h size i n v rest run hq m st z κ go free =
+  step-walks (Flow.Ended to) x e h size i n v rest run hq m st z κ go free =
       let q = append-nil (e .calls) in
       rw (m .flow)
       (record { fit = rw q (m .does .fit); range = rw q (m .does .range); slots = rw q (m .does .slots); next = rw q (m .next); count = omega arith })
-  turn-walks Flow.Helper x e h size i n v rest run hq m st z κ go free =
+  step-walks Flow.Helper x e h size i n v rest run hq m st z κ go free =
       rw (m .flow, st) (helped-walks e h size i n RS.Stop.Helper v rest hq (m .fine) (rw (m .flow) at free))
-  turn-walks Flow.Uncovered x e h size i n v rest run hq m st z κ go free =
+  step-walks Flow.Uncovered x e h size i n v rest run hq m st z κ go free =
       rw (m .flow, st) (helped-walks e h size i n RS.Stop.Uncovered v rest hq (m .fine) (rw (m .flow) at free))
 
   module _ (host : JH.Host) where
-    step-walks : (a b c : Bool) (w u : ℕ) (i n : ℕ) (v : Host) (rest : ℕ → ℕ → Walk) (run : ℕ → Hart → Ran)
+    -- what was fetched: nothing, or an instruction of 16 or of 32 bits
+    instr-walks : (a b c : Bool) (w u : ℕ) → eqb (w % 4) 3 ≡ b → (b ≡ true → eqb (u % 4) 3 ≡ true) → (i n : ℕ) (v : Host) (rest : ℕ → ℕ → Walk) (run : ℕ → Hart → Ran)
         → w < 2 ^ 16 → u < 2 ^ 32 → Kept r₀ true v → getD (v .slots) 0 0 ≡ 0 → ((size : ℕ) → size % 2 ≡ 0 → Follows (i + size) (rest (suc n) (i + size)) (run size))
-        → (t : Turn) → turn host (add start i) n (cond a (cond b (cond c (Fetched.Word u) Fetched.Missing) (Fetched.Half w)) Fetched.Missing) ≡ t
-        → by-helper (step (t .outcome) t start n i rest .stop) ≡ 0
-        → Walks (step (t .outcome) t start n i rest) v
+        → by-helper (instr-walk host (cond a (cond b (cond c (some u) none) (some w)) none) start n i rest .stop) ≡ 0
+        → Walks (instr-walk host (cond a (cond b (cond c (some u) none) (some w)) none) start n i rest) v
         (R.step (cond (not a) RF.Fetched.Missing (cond (not b) (RF.Fetched.Found (RC.decode16 (host .ebreak) w) 2) (cond (not c) RF.Fetched.Missing (RF.Fetched.Found (RD.decode32 u) 4)))) (R.hart (v .slots) (add start i)) n run)
-    unfolding turn instr16-turn instr-turn step R.step next-calls
-    step-walks false b c w u i n v rest run hw hu κ z go t q free = rw (← q) (stop-walks [] n (add start i) Stop.NotFetched RS.Stop.NotFetched v refl nothing (omega arith))
-    step-walks true false c w u i n v rest run hw hu κ z go t q free =
+    unfolding instr-walk emit-native emit-term-helper R.step next-calls
+    instr-walks false b c w u qw qu i n v rest run hw hu κ z go free = stop-walks [] n (add start i) Stop.NotFetched RS.Stop.NotFetched v refl nothing (omega arith)
+    instr-walks true false c w u qw qu i n v rest run hw hu κ z go free =
         let j = RC.decode16 (host .ebreak) w in
-        rw (← q)
-        (turn-walks _ _ (E16.emit-native-instr16 (host .ebreak) (add start i) w) _ 2 i n v rest (run 2) (quiet16 host (add start i) w n) (agrees16 r₀ (add start i) v κ z w hw (host .ebreak))
-        (exec-stays j 2 (add start i) (v .slots)) (exec-zero j 2 (add start i) (v .slots) ∙ z) κ (go 2 refl) (rw (← q) at free))
-    step-walks true true false w u i n v rest run hw hu κ z go t q free = rw (← q) (stop-walks [] n (add start i) Stop.NotFetched RS.Stop.NotFetched v refl nothing (omega arith))
-    step-walks true true true w u i n v rest run hw hu κ z go t q free =
+        rw qw
+        (step-walks _ _ (E16.emit-native-instr16 (host .ebreak) (add start i) w) _ 2 i n v rest (run 2) (quiet16 host (add start i) w n) (agrees16 r₀ (add start i) v κ z w hw (host .ebreak))
+        (exec-stays j 2 (add start i) (v .slots)) (exec-zero j 2 (add start i) (v .slots) ∙ z) κ (go 2 refl) (rw qw at free))
+    instr-walks true true false w u qw qu i n v rest run hw hu κ z go free = stop-walks [] n (add start i) Stop.NotFetched RS.Stop.NotFetched v refl nothing (omega arith)
+    instr-walks true true true w u qw qu i n v rest run hw hu κ z go free =
         let j = RD.decode32 u in
-        rw (← q)
-        (turn-walks _ _ (E32.emit-native-instr (add start i) u (JD.decode32 u)) _ 4 i n v rest (run 4) (quiet32 host (add start i) u n (JD.decode32 u)) (agrees32 r₀ (add start i) v κ z u hu)
-        (exec-stays j 4 (add start i) (v .slots)) (exec-zero j 4 (add start i) (v .slots) ∙ z) κ (go 4 refl) (rw (← q) at free))
+        rw (qu refl)
+        (step-walks _ _ (E32.emit-native-instr (add start i) u (JD.decode32 u)) _ 4 i n v rest (run 4) (quiet32 host (add start i) u n (JD.decode32 u)) (agrees32 r₀ (add start i) v κ z u hu)
+        (exec-stays j 4 (add start i) (v .slots)) (exec-zero j 4 (add start i) (v .slots) ∙ z) κ (go 4 refl) (rw (qu refl) at free))
 
     short : (i k l : ℕ) → 0 < k → ltb (l - i) k ≡ not (leb (i + k) l)
     short i k l h = by (leb (i + k) l) refl
@@ -239,6 +237,9 @@ module _ (r₀ : ℕ → ℕ) (start : ℕ) where
 
     word-at : (m : List ℕ) (i : ℕ) → load 2 m (i + 2) * 2 ^ 16 + load 2 m i ≡ load 4 m i
     word-at m i = omega (arith, load-add 2 2 m i)
+
+    wide : (m : List ℕ) (i : ℕ) → eqb (load 2 m i % 4) 3 ≡ true → eqb (load 4 m i % 4) 3 ≡ true
+    wide m i e = eq-eqb (load 4 m i % 4) 3 (omega (arith, word-at m i, eqb-true (load 2 m i % 4) 3 e))
 
     from-drop : (k : ℕ) (m : List ℕ) (i : ℕ) → load k (drop i m) 0 ≡ load k m i
     unfolding load
@@ -255,7 +256,7 @@ module _ (r₀ : ℕ → ℕ) (start : ℕ) where
         let l : length (drop i guest) ≡ length guest - i = length-drop i guest in
         let o : eqb (add start i % 2) 0 ≡ true = eq-eqb (add start i % 2) 0 he in
         rw (o, word-at guest i, from-drop 2 guest i, from-drop 4 guest i, l, short i 2 (length guest) (omega arith), short i 4 (length guest) (omega arith))
-        (step-walks (leb (i + 2) (length guest)) (eqb (load 2 guest i % 4) 3) (leb (i + 4) (length guest)) (load 2 guest i) (load 4 guest i) i n v
+        (instr-walks (leb (i + 2) (length guest)) (eqb (load 2 guest i % 4) 3) (leb (i + 4) (length guest)) (load 2 guest i) (load 4 guest i) refl (wide guest i) i n v
         (walk host guest start k) (λ size. R.run (host .ebreak) k (n + 1) (drop size (drop i guest))) (load-lt 2 guest i hb) (load-lt 4 guest i hb) κ z
-        (λ size e u κ′ z′ f. rw (p, drop-drop size i guest) (walk-walks guest hb hs k (suc n) (i + size) u (omega (arith, he, e)) κ′ z′ f)) _ refl
+        (λ size e u κ′ z′ f. rw (p, drop-drop size i guest) (walk-walks guest hb hs k (suc n) (i + size) u (omega (arith, he, e)) κ′ z′ f))
         (rw (o, word-at guest i) at free))

@@ -12,7 +12,7 @@ use Rattle.le.specs.Laws.{Bytes}
 use Rattle.a64.specs.Emitter.{bytes}
 use Rattle.emit_native.specs.declared.Host.{Host}
 use Rattle.jit_arm64.specs.declared.Answer.{Answer}
-use Rattle.jit_arm64.specs.Block.{fetch, turn, whole-walk}
+use Rattle.jit_arm64.specs.Block.{fetch, whole-walk}
 use Rattle.jit_arm64.specs.Translate.{bad-slots, is-missing, is-uncovered, block-bytes, refusal, refused, by-helper, accepted, translate, output-after}
 use Rattle.translation.specs.Demand3.{Demand3}
 use Rattle.translation.proofs.Whole.{demand3}
@@ -52,7 +52,7 @@ module _ (h : Host) (pc limit : ℕ) (guest out : List ℕ) (hb : Bytes guest) (
   passes : Passes (bad-slots (h .slots)) (eqb (pc % 2) 1)
   unfolding refusal
   passes =
-      passes-by (bad-slots (h .slots)) (eqb limit 0) (eqb (pc % 2) 1) (is-missing (fetch pc guest 0)) (is-uncovered (turn h pc 0 (fetch pc guest 0) .outcome))
+      passes-by (bad-slots (h .slots)) (eqb limit 0) (eqb (pc % 2) 1) (is-missing (fetch pc guest 0)) (is-uncovered h pc (fetch pc guest 0))
       (ltb (length out) (length (block-bytes h guest pc limit))) (eqb-true n 0 zero-is)
 
   answer-is : translate h guest pc limit out ≡ accepted h guest pc limit

@@ -27,11 +27,12 @@ use Rattle.rv64.specs.Run as R
 use Rattle.emit_native.specs.declared.Host as JH
 use Rattle.jit_arm64.specs.declared.block.Stop.{Stop}
 use Rattle.emit_native.specs.Calls.{Call, emit, mov-imm64, ret, forms, groups, reg-off, Emission}
+use mathlib.Core.Option.{Option, none, some}
+use Rattle.emit_native.specs.declared.EmitFlow.{EmitFlow}
 use Rattle.emit_native.specs.Calls as JC
-use Rattle.jit_arm64.specs.declared.block.Outcome.{Outcome}
-use Rattle.jit_arm64.specs.Block.{Turn, Walk, fetch, turn, step, walk, end-calls, block-calls, whole-walk, max-steps}
+use Rattle.jit_arm64.specs.Block.{Walk, size-of, helped, step, instr-walk, walk, end-calls, block-calls, whole-walk, max-steps}
 use Rattle.jit_arm64.specs.Translate.{by-helper, block-bytes}
-use Rattle.jit_arm64.proofs.Turns.{forms-append}
+use Rattle.jit_arm64.proofs.Emitting.{forms-append}
 use Rattle.translation.specs.Demand3.{slot, place, Entry, Outside, Ends, Demand3}
 use Rattle.translation.proofs.Registers.{tab, tab-getD, getD-tab}
 use Rattle.translation.proofs.Calls.{Host, host, call-step, calls-run, scratch, fits, keeps, all-fit, all-keep, AllIn, Kept, calls-kept, real, Goes, calls-go}
@@ -91,20 +92,27 @@ block-words o w free =
 
 -- ---- the count is at most the limit
 
-step-most : (o : Outcome) (t : Turn) (start n i k : ℕ) (rest : ℕ → ℕ → Walk) → ((j : ℕ) → rest (suc n) j .count ≤ suc n + k) → step o t start n i rest .count ≤ n + suc k
+helped-most : (f : EmitFlow) (cs : List Call) (n pc : ℕ) → helped f cs n pc .count ≤ suc n
+unfolding helped
+helped-most EmitFlow.Continue cs n pc = omega arith
+helped-most EmitFlow.Terminate cs n pc = omega arith
+helped-most EmitFlow.None cs n pc = omega arith
+
+step-most : (f : EmitFlow) (e helper : Emission) (m start n i k : ℕ) (rest : ℕ → ℕ → Walk) → ((j : ℕ) → rest (suc n) j .count ≤ suc n + k) → step f e helper m start n i rest .count ≤ n + suc k
 unfolding step
-step-most Outcome.GoOn t start n i k rest h = omega (arith, h (i + t .size))
-step-most Outcome.End t start n i k rest h = omega arith
-step-most Outcome.Help t start n i k rest h = omega arith
-step-most Outcome.Pass t start n i k rest h = omega arith
-step-most Outcome.Lack t start n i k rest h = omega arith
+step-most EmitFlow.Continue e helper m start n i k rest h = omega (arith, h (i + m))
+step-most EmitFlow.Terminate e helper m start n i k rest h = omega arith
+step-most EmitFlow.None e helper m start n i k rest h = omega (arith, helped-most (helper .flow) (e .calls ++ helper .calls) n (add start i))
+
+instr-most : (h : JH.Host) (f : Option ℕ) (start n i k : ℕ) (rest : ℕ → ℕ → Walk) → ((j : ℕ) → rest (suc n) j .count ≤ suc n + k) → instr-walk h f start n i rest .count ≤ n + suc k
+unfolding instr-walk
+instr-most h none start n i k rest l = omega arith
+instr-most h (some instr) start n i k rest l = step-most _ _ _ (size-of instr) start n i k rest l
 
 walk-most : (h : JH.Host) (guest : List ℕ) (start k n i : ℕ) → walk h guest start k n i .count ≤ n + k
 unfolding walk
 walk-most h guest start zero n i = omega arith
-walk-most h guest start (suc k) n i =
-    let t = turn h (add start i) n (fetch (add start i) guest i) in
-    step-most (t .outcome) t start n i k (walk h guest start k) (λ j. walk-most h guest start k (suc n) j)
+walk-most h guest start (suc k) n i = instr-most h _ start n i k (walk h guest start k) (λ j. walk-most h guest start k (suc n) j)
 
 -- ---- the block, from a state at entry
 
