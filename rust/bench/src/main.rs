@@ -1,6 +1,5 @@
 //! Nanoseconds of the proved operations beside plain Rust on the same inputs, in one run.
 
-mod inputs;
 mod place;
 mod runs;
 mod translation;

@@ -1,8 +1,8 @@
 //! The oracle's commands; the README says what each does.
 
-use oracle::random::Random;
-use oracle::rules::Case;
-use oracle::{program, record, rows, rules, LONGEST};
+use draw::guest::Guests;
+use draw::{Random, LONGEST};
+use oracle::{program, record, rows, rules};
 use std::io::{Read, Write};
 use std::path::Path;
 
@@ -65,21 +65,15 @@ fn check_files(root: &Path) {
 /// Random blocks by document 01's rules; a panic of the source ends the run.
 fn fuzz(count: usize, seed: u64) {
     let mut random = Random(seed);
-    let recorded = record::cases();
+    let guests = Guests::default();
     let mut wrong = Vec::new();
     let (mut instructions, mut longest) = (0, 0);
     for _ in 0..count {
-        let mut guest = Vec::new();
-        for _ in 0..1 + random.below(6) {
-            guest.extend(&recorded[random.below(recorded.len())].guest);
+        let mut case = guests.case(&mut random);
+        if random.below(3) == 0 {
+            case.room = random.below(LONGEST);
         }
-        if random.below(4) == 0 {
-            let (at, bit) = (random.below(guest.len() + 1), random.below(8));
-            guest.iter_mut().skip(at).take(1).for_each(|byte| *byte ^= 1 << bit);
-        }
-        let case: &Case = &recorded[random.below(recorded.len())];
-        let room = random.pick(&[case.room, LONGEST, LONGEST]);
-        match rules::compare(&Case { guest, room, ..case.clone() }) {
+        match rules::compare(&case) {
             Ok(answer) => {
                 instructions += answer.count as u64;
                 longest = longest.max(answer.length);

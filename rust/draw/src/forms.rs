@@ -1,11 +1,6 @@
-//! Instructions and questions drawn at random: every form of document 01's rules, edges more often than the rest.
+//! Instruction forms: document 01's rules 2, 4 and 7 for RV64, its 24 forms for A64.
 
-use crate::marked;
-use crate::random::Random;
-use crate::rules::{class16, class32, Case, Class};
-use crate::LONGEST;
-
-/// An instruction form: the fixed bits, the mask of the fixed bits.
+/// The values of the fixed bits, and which bits are fixed.
 pub type Form = (u32, u32);
 
 /// Rule 2's 32-bit forms.
@@ -61,6 +56,11 @@ pub const INLINE16: [Form; 25] = [
     (0x9002, 0xf07f),
     (0x9002, 0xf003),
 ];
+
+/// All of rule 2's forms.
+pub fn inline() -> Vec<Form> {
+    [inline32(), INLINE16.to_vec()].concat()
+}
 
 /// Rule 4's forms.
 pub fn helper() -> Vec<Form> {
@@ -149,86 +149,40 @@ pub const UNCOVERED: [Form; 40] = [
     (0x9002, 0xff83),
 ];
 
-/// The bytes of an instruction of the form, its free fields at the edges or anywhere.
-pub fn draw(random: &mut Random, form: Form) -> Vec<u8> {
-    let (value, mask) = form;
-    let mut free = random.pattern();
-    if random.below(5) == 0 {
-        free &= !0xf80;
-    }
-    if random.below(5) == 0 {
-        free |= random.pick(&[1, 2, 31]) << 7;
-    }
-    let instr = value | free & !mask;
-    let size = if value & 3 == 3 { 4 } else { 2 };
-    instr.to_le_bytes()[..size].to_vec()
+/// All of the forms above.
+pub fn all() -> Vec<Form> {
+    [&inline()[..], &helper(), &LEFTOVER, &UNCOVERED].concat()
 }
 
-/// An instruction after which a block goes on.
-pub fn draw_next(random: &mut Random, forms: &[Form]) -> Vec<u8> {
-    loop {
-        let form = random.pick(forms);
-        let bytes = draw(random, form);
-        let class = match bytes.len() {
-            2 => class16(u16::from_le_bytes([bytes[0], bytes[1]]), false),
-            _ => class32(u32::from_le_bytes([bytes[0], bytes[1], bytes[2], bytes[3]])),
-        };
-        if class == Class::Next {
-            return bytes;
-        }
-    }
-}
-
-pub const PCS: [u64; 18] = [
-    0,
-    2,
-    4,
-    0x1000,
-    0x1002,
-    0x7ffc,
-    0xfffe,
-    0x7fff_fffe,
-    0x8000_0000,
-    0xffff_fffc,
-    0x1_0000_0000,
-    0x0001_0001_0001_0000,
-    0x7fff_ffff_ffff_fffe,
-    0x8000_0000_0000_0000,
-    0xffff_ffff_ffff_f000,
-    0xffff_ffff_ffff_fff8,
-    0xffff_ffff_ffff_fffc,
-    0xffff_ffff_ffff_fffe,
+/// The 24 forms of A64. The last two, BLR and RET, end a run.
+pub const A64: [Form; 24] = [
+    (0xF940_0000, 0xFFC0_0000), // LDR
+    (0xF900_0000, 0xFFC0_0000), // STR
+    (0x8B00_0000, 0xFFE0_FC00), // ADD
+    (0xCB00_0000, 0xFFE0_FC00), // SUB
+    (0x8A00_0000, 0xFFE0_FC00), // AND
+    (0xAA00_0000, 0xFFE0_FC00), // ORR
+    (0xCA00_0000, 0xFFE0_FC00), // EOR
+    (0x9AC0_2000, 0xFFE0_FC00), // LSLV
+    (0x9AC0_2400, 0xFFE0_FC00), // LSRV
+    (0x9AC0_2800, 0xFFE0_FC00), // ASRV
+    (0x9B00_7C00, 0xFFE0_FC00), // MUL
+    (0x9B40_7C00, 0xFFE0_FC00), // SMULH
+    (0x9BC0_7C00, 0xFFE0_FC00), // UMULH
+    (0x9AC0_0800, 0xFFE0_FC00), // UDIV
+    (0x9AC0_0C00, 0xFFE0_FC00), // SDIV
+    (0xEB00_001F, 0xFFE0_FC1F), // CMP
+    (0x9A80_0000, 0xFFE0_0C00), // CSEL
+    (0x9340_7C00, 0xFFFF_FC00), // SXTW
+    (0x9100_03FF, 0xFFC0_03FF), // ADD SP
+    (0xD100_03FF, 0xFFC0_03FF), // SUB SP
+    (0xD280_0000, 0xFF80_0000), // MOVZ
+    (0xF280_0000, 0xFF80_0000), // MOVK
+    (0xD63F_0000, 0xFFFF_FC1F), // BLR
+    (0xD65F_03C0, 0xFFFF_FFFF), // RET
 ];
-pub const LIMITS: [u32; 7] = [1, 2, 3, 63, 64, 65, u32::MAX];
-pub const HELPERS: [[u64; 3]; 5] = [
-    marked::HELPERS,
-    [0, 0, 0],
-    [u64::MAX, u64::MAX - 0xffff, 0xffff_ffff],
-    [0x0001_0000_0000_0000, 0x0000_ffff_0000_0000, 0x1234_0000_5678_0000],
-    [0x0000_0001_0000_0001, 0xffff_0000_0000_ffff, 0x7f80_1234_5678],
-];
-pub const BAD_SLOTS: [u64; 12] =
-    [1, 4, 7, 32_511, 32_513, 32_516, 32_520, 65_536, 65_544, 1 << 32, 1 << 63, u64::MAX];
 
-pub fn draw_helpers(random: &mut Random) -> [u64; 3] {
-    if random.below(2) == 0 {
-        return random.pick(&HELPERS);
-    }
-    [(); 3].map(|_| {
-        let kept = [0, 16, 32, 48].map(|shift| ((random.next() & 1) * 0xffff) << shift);
-        random.next() & kept.iter().sum::<u64>()
-    })
-}
-
-/// A question around `guest`, with room enough.
-pub fn draw_case(random: &mut Random, guest: Vec<u8>) -> Case {
-    let pc = if random.below(4) == 0 { random.next() & !1 } else { random.pick(&PCS) };
-    let limit = if random.below(8) == 0 { random.next() as u32 | 1 } else { random.pick(&LIMITS) };
-    let slot_offset = match random.below(4) {
-        0 => 8 * random.below(4_065) as u64,
-        _ => random.pick(&[0, 8, 32_512]),
-    };
-    let ignore_ebreak = random.below(2) == 0;
-    let helpers = draw_helpers(random);
-    Case { guest, pc, limit, ignore_ebreak, slot_offset, helpers, room: LONGEST }
+/// The word of a form whose free bits are these.
+pub fn encode((value, fixed): Form, free: u32) -> u32 {
+    value | free & !fixed
 }
