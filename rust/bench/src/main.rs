@@ -38,6 +38,12 @@ fn row<T, A, B>(
 }
 
 fn main() {
+    if oracle::CHECKED {
+        eprintln!(
+            "bench: emuko's Rust is measured without its checks: cargo run --profile measure"
+        );
+        std::process::exit(2)
+    }
     println!("{:36} {:>9} {:>9} {:17} {:>6}", "", "proved", "plain", "", "ratio");
     translation::rows();
     runs::rows();

@@ -42,7 +42,7 @@ pub fn plain_run(random: &mut Random, length: usize) -> Vec<u8> {
     for _ in 1..length {
         let mut form = random.below(STRAIGHT);
         // X1 to X30 or none, where the form writes a register.
-        let mut free = random.next() as u32 & !31 | 1 + random.below(31) as u32;
+        let mut free = random.next() as u32 & !31 | (1 + random.below(31) as u32);
         match form {
             LDR | STR => free = free & !(31 << 5) | random.pick(&[0, 0, 0, 31]) << 5,
             ADD_SP | SUB_SP => {

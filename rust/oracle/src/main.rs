@@ -9,11 +9,15 @@ use std::path::Path;
 const USE: &str =
     "use: oracle translate < INPUT | rows | record ROOT | check ROOT | fuzz COUNT [SEED]";
 
-fn fail(lines: &[String]) -> ! {
-    for line in lines.iter().take(20) {
+/// Ends the program if there is a difference.
+fn none_differs(wrong: &[String]) {
+    if wrong.is_empty() {
+        return;
+    }
+    for line in wrong.iter().take(20) {
         eprintln!("oracle: {line}");
     }
-    eprintln!("oracle: {} differ", lines.len());
+    eprintln!("oracle: {} differ", wrong.len());
     std::process::exit(1)
 }
 
@@ -25,14 +29,10 @@ fn translate() {
 
 fn check_rows() {
     let (asked, wrong) = rows::check();
-    if !wrong.is_empty() {
-        fail(&wrong);
-    }
+    none_differs(&wrong);
     println!("oracle: {asked} rows of document 01 as the Rust has them");
     let (asked, wrong) = rules::check();
-    if !wrong.is_empty() {
-        fail(&wrong);
-    }
+    none_differs(&wrong);
     println!("oracle: {asked} instructions and places by document 01's rules as the Rust has them");
 }
 
@@ -57,9 +57,7 @@ fn check_files(root: &Path) {
             Ok(_) => println!("oracle: {name} as the Rust has it, {} bytes", bytes.len()),
         }
     }
-    if !wrong.is_empty() {
-        fail(&wrong);
-    }
+    none_differs(&wrong);
 }
 
 /// Random blocks by document 01's rules; a panic of the source ends the run.
@@ -81,9 +79,7 @@ fn fuzz(count: usize, seed: u64) {
             Err(text) => wrong.push(text),
         }
     }
-    if !wrong.is_empty() {
-        fail(&wrong);
-    }
+    none_differs(&wrong);
     println!("oracle: {count} blocks, {instructions} instructions, longest block {longest} bytes");
 }
 
