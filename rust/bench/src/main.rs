@@ -1,6 +1,5 @@
 //! Nanoseconds of the proved operations beside plain Rust on the same inputs, in one run.
 
-mod inputs;
 mod place;
 mod runs;
 mod translation;
@@ -39,6 +38,12 @@ fn row<T, A, B>(
 }
 
 fn main() {
+    if oracle::CHECKED {
+        eprintln!(
+            "bench: emuko's Rust is measured without its checks: cargo run --profile measure"
+        );
+        std::process::exit(2)
+    }
     println!("{:36} {:>9} {:>9} {:17} {:>6}", "", "proved", "plain", "", "ratio");
     translation::rows();
     runs::rows();

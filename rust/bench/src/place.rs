@@ -1,8 +1,8 @@
 //! Place beside a checked `copy_from_slice`.
 
 use crate::{row, SEED};
+use draw::Random;
 use hilofanur::boundary::{self, PlaceAnswer};
-use oracle::random::Random;
 
 pub fn rows() {
     for length in [64, 1024, 7448] {

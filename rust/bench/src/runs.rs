@@ -1,11 +1,18 @@
 //! The two runs beside the plain steppers.
 
-use crate::inputs::{a64_block, rv64_block, BASE, MEMORY, MIDDLE};
 use crate::{row, SEED};
+use draw::a64::plain_run;
+use draw::guest::Guests;
+use draw::values::registers;
+use draw::Random;
 use hilofanur::{boundary, Guest, Registers};
-use oracle::random::Random;
 use std::hint::black_box;
 use steppers::{a64_run, rv64_run, A64Answer, A64State, Rv64Answer};
+
+/// The memory of A64 runs. X0 and SP point to its middle; loads and stores reach 32 KiB from there.
+const BASE: u64 = 0x10_0000;
+const MEMORY: usize = 0x4_0000;
+const MIDDLE: u64 = BASE + MEMORY as u64 / 2;
 
 pub fn rows() {
     rv64(64, 256);
@@ -20,16 +27,6 @@ pub fn rows() {
     one_nop();
 }
 
-fn registers(random: &mut Random) -> [u64; 32] {
-    let mut registers = std::array::from_fn(|_| random.next());
-    registers[0] = 0;
-    registers
-}
-
-fn state_bytes(state: &A64State) -> [u8; 264] {
-    hilofanur::A64State { x: state.x, sp: state.sp, nzcv: state.nzcv }.to_bytes()
-}
-
 fn proved_rv64(bytes: &[u8], registers: &mut [u8; 256]) -> Rv64Answer {
     let guest = Guest { bytes, pc: 0x1000, limit: 64, ignore_ebreak: false };
     let a = boundary::rv64_run(&guest, registers);
@@ -42,9 +39,10 @@ fn plain_rv64(block: &[u8], registers: &mut [u64; 32]) -> Rv64Answer {
 
 /// Blocks of `length` instructions, so many of them, in turn.
 fn rv64(length: usize, number: usize) {
-    let mut random = Random(SEED);
-    let blocks: Vec<Vec<u8>> = (0..number).map(|_| rv64_block(&mut random, length)).collect();
-    let mut plain = registers(&mut random);
+    let (guests, mut random) = (Guests::default(), Random(SEED));
+    let block = |_| guests.plain_block(&mut random, length);
+    let blocks: Vec<Vec<u8>> = (0..number).map(block).collect();
+    let mut plain = registers(|| random.next());
     let mut bytes = Registers { x: plain }.to_bytes();
     for block in &blocks {
         let (mut plain, mut bytes) = (plain, bytes);
@@ -74,10 +72,10 @@ fn plain_a64(block: &[u8], state: &mut A64State, memory: &mut [u8]) -> A64Answer
 /// Straight runs of `length` words, so many of them, in turn.
 fn a64(length: usize, number: usize) {
     let mut random = Random(SEED);
-    let blocks: Vec<Vec<u8>> = (0..number).map(|_| a64_block(&mut random, length)).collect();
+    let blocks: Vec<Vec<u8>> = (0..number).map(|_| plain_run(&mut random, length)).collect();
     let mut start = A64State { x: std::array::from_fn(|_| random.next()), sp: MIDDLE, nzcv: 0 };
     start.x[0] = MIDDLE;
-    let start_bytes = state_bytes(&start);
+    let start_bytes = start.to_bytes();
     let mut memory = random.bytes(MEMORY);
     let mut plain_memory = memory.clone();
     for block in &blocks {
@@ -85,7 +83,7 @@ fn a64(length: usize, number: usize) {
         let answer = plain_a64(block, &mut plain, &mut plain_memory);
         assert_eq!((answer.end, answer.steps), (steppers::RETURNED, length as u64));
         assert_eq!(answer, proved_a64(block, &mut bytes, &mut memory));
-        assert_eq!(bytes, state_bytes(&plain));
+        assert_eq!(bytes, plain.to_bytes());
         assert!(memory == plain_memory);
     }
     row(
@@ -106,7 +104,7 @@ fn a64(length: usize, number: usize) {
 /// What an A64 run costs that runs nothing.
 fn no_word() {
     let mut state = A64State { x: [7; 31], sp: 0, nzcv: 0 };
-    let mut bytes = state_bytes(&state);
+    let mut bytes = state.to_bytes();
     row(
         "A64 run, no word",
         (1, "call"),
@@ -118,7 +116,8 @@ fn no_word() {
 
 /// What an RV64 run costs that does nothing.
 fn one_nop() {
-    let mut plain = registers(&mut Random(SEED));
+    let mut random = Random(SEED);
+    let mut plain = registers(|| random.next());
     let mut bytes = Registers { x: plain }.to_bytes();
     row(
         "RV64 run, one C.NOP",

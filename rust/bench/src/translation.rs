@@ -1,30 +1,28 @@
 //! Translate beside emuko's `compile_native_block`.
 
-use crate::inputs::{rv64_block, rv64_single};
 use crate::{row, SEED};
+use draw::guest::Guests;
+use draw::marked::{DIV, HELPERS, LONG_PC as PC};
+use draw::{Random, LONGEST};
 use hilofanur::{boundary, Guest, Host};
-use oracle::marked::HELPERS;
-use oracle::random::Random;
-use oracle::{translate, Answer, LONGEST};
+use oracle::{translate, Answer};
 use std::hint::black_box;
 
-/// The PC of document 01's row of 64 DIV.
-const PC: u64 = 0x0001_0001_0001_0000;
 const HOST: Host =
     Host { slot_offset: 0, memory_helper: HELPERS[0], helper32: HELPERS[1], helper16: HELPERS[2] };
 
 pub fn rows() {
-    let mut random = Random(SEED);
+    let (guests, mut random) = (Guests::default(), Random(SEED));
     let mut blocks = |length: usize, number: usize| -> Vec<Vec<u8>> {
-        (0..number).map(|_| rv64_block(&mut random, length)).collect()
+        (0..number).map(|_| guests.plain_block(&mut random, length)).collect()
     };
     let (long, short) = (blocks(64, 256), blocks(8, 2048));
-    measure("Translate, 64 DIV", 64, &[[0xB3, 0x42, 0x73, 0x02].repeat(64)]);
+    measure("Translate, 64 DIV", 64, &[DIV.repeat(64)]);
     measure("Translate, 256 blocks of 64", 64, &long);
     measure("Translate, 2048 blocks of 8", 8, &short);
     measure("Translate, 4 blocks of 64", 64, &long[..4]);
     measure("Translate, 4 blocks of 8", 8, &short[..4]);
-    let single: Vec<Vec<u8>> = (0..4096).map(|_| rv64_single(&mut random)).collect();
+    let single: Vec<Vec<u8>> = (0..4096).map(|_| guests.plain_single(&mut random)).collect();
     measure("Translate, 4096 single instructions", 1, &single);
     measure("Translate, 64 C.NOP", 64, &[[1, 0].repeat(64)]);
 }

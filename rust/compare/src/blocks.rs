@@ -1,10 +1,10 @@
 //! Demand 3 on the library's own answers: a helper-free block run as A64 words against the RV64 run.
 
-use crate::draw::{question, value, Guests};
-use crate::Compared;
-use hilofanur::LONGEST_BLOCK;
+use crate::{question, Compared};
+use draw::guest::Guests;
+use draw::values::{registers, value, Pool};
+use draw::{Random, LONGEST};
 use hilofanur::{a64_run, rv64_run, translate, A64Run, A64State, End, Guest, Registers};
-use oracle::random::Random;
 
 /// The bytes of the 32 slots.
 const SLOTS: usize = 256;
@@ -12,8 +12,7 @@ const SLOTS: usize = 256;
 pub struct Blocks {
     guests: Guests,
     output: Vec<u8>,
-    /// Bytes that memories are cut from.
-    pool: Vec<u8>,
+    pool: Pool,
 }
 
 /// Memory around the slots, the base, and where in memory the slots begin.
@@ -23,19 +22,19 @@ struct Place {
     slots: usize,
 }
 
-impl Blocks {
-    pub fn new() -> Blocks {
-        let (output, pool) = (vec![0; LONGEST_BLOCK], Random(0).bytes(0x1_0000));
-        Blocks { guests: Guests::new(), output, pool }
+impl Default for Blocks {
+    fn default() -> Blocks {
+        Blocks { guests: Guests::default(), output: vec![0; LONGEST], pool: Pool::default() }
     }
+}
 
+impl Blocks {
     /// Memory with room for the slots, up to the last address now and then.
     fn place(&self, random: &mut Random, registers: &Registers) -> Place {
         let (before, behind) = (random.below(8), random.below(24));
         let slots = 8 * before;
         let size = slots + SLOTS + behind;
-        let from = random.below(self.pool.len() - size);
-        let mut memory = self.pool[from..from + size].to_vec();
+        let mut memory = self.pool.cut(random, size);
         memory[slots..slots + SLOTS].copy_from_slice(&registers.to_bytes());
         let base = match random.below(4) {
             0 => 0,
@@ -87,8 +86,7 @@ impl Compared for Blocks {
             Ok(block) if block.helper => return Ok(1),
             Ok(block) => block,
         };
-        let mut registers = Registers { x: std::array::from_fn(|_| value(random)) };
-        registers.x[0] = 0;
+        let registers = Registers { x: registers(|| value(random)) };
         let place = self.place(random, &registers);
         let words = (&self.output[..block.length], block.count);
         let wrong = run(random, (&guest, host.slot_offset), words, registers, place);

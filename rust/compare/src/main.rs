@@ -2,12 +2,12 @@
 
 mod a64;
 mod blocks;
-mod draw;
 mod place;
 mod rv64;
 mod translate;
 
-use oracle::random::Random;
+use draw::{Case, Random};
+use hilofanur::{Guest, Host};
 use std::time::{Duration, Instant};
 
 const USE: &str = "use: compare COUNT [SEED]";
@@ -25,9 +25,19 @@ trait Compared {
     fn compare(&mut self, random: &mut Random) -> Result<usize, String>;
 }
 
+/// The question as the library takes it.
+fn question(case: &Case) -> (Guest<'_>, Host) {
+    let Case { guest: ref bytes, pc, limit, ignore_ebreak, slot_offset, helpers, .. } = *case;
+    let [memory_helper, helper32, helper16] = helpers;
+    (
+        Guest { bytes, pc, limit, ignore_ebreak },
+        Host { slot_offset, memory_helper, helper32, helper16 },
+    )
+}
+
 /// Compares `count` cases, with a line of progress now and then. True if none differs.
-fn run<T: Compared>(mut operation: T, count: u64, seed: u64) -> bool {
-    let mut random = Random(seed);
+fn run<T: Compared + Default>(count: u64, seed: u64) -> bool {
+    let (mut operation, mut random) = (T::default(), Random(seed));
     let mut met = vec![0u64; T::OUTCOMES.len()];
     let mut differences = 0;
     let mut shown = Instant::now();
@@ -69,11 +79,11 @@ fn main() {
         }
     };
     let same = [
-        run(translate::Translate::new(), count, seed),
-        run(place::Place::new(), count, seed),
-        run(rv64::Rv64::new(), count, seed),
-        run(a64::A64::new(), count, seed),
-        run(blocks::Blocks::new(), count, seed),
+        run::<translate::Translate>(count, seed),
+        run::<place::Place>(count, seed),
+        run::<rv64::Rv64>(count, seed),
+        run::<a64::A64>(count, seed),
+        run::<blocks::Blocks>(count, seed),
     ];
     if same.contains(&false) {
         std::process::exit(1)

@@ -1,19 +1,15 @@
 //! RV64 run against the plain stepper: refusals, count, next PC, registers.
 
-use crate::draw::{question, value, Guests};
-use crate::Compared;
+use crate::{question, Compared};
+use draw::guest::Guests;
+use draw::values::{registers, value};
+use draw::Random;
 use hilofanur::{boundary, Registers};
-use oracle::random::Random;
 use steppers::rv64_run;
 
+#[derive(Default)]
 pub struct Rv64 {
     guests: Guests,
-}
-
-impl Rv64 {
-    pub fn new() -> Rv64 {
-        Rv64 { guests: Guests::new() }
-    }
 }
 
 const REFUSALS: [u32; 6] = [0, 2, 3, 4, 5, 9];
@@ -26,9 +22,9 @@ impl Compared for Rv64 {
     fn compare(&mut self, random: &mut Random) -> Result<usize, String> {
         let case = self.guests.case(random);
         let (guest, _) = question(&case);
-        let mut before: [u64; 32] = std::array::from_fn(|_| value(random));
-        if random.below(16) != 0 {
-            before[0] = 0;
+        let mut before = registers(|| value(random));
+        if random.below(16) == 0 {
+            before[0] = value(random);
         }
         let mut registers = before;
         let expected =

@@ -1,11 +1,11 @@
 //! Translate against `compile_native_block`: refusals, words, count, helper mark, and the output behind the block.
 
-use crate::draw::{question, Guests};
-use crate::Compared;
+use crate::{question, Compared};
+use draw::case::enough;
+use draw::guest::Guests;
+use draw::{Case, Random, LONGEST};
 use hilofanur::boundary;
-use oracle::random::Random;
-use oracle::rules::{ask, Case};
-use oracle::{Answer, LONGEST};
+use oracle::{ask, Answer};
 
 pub struct Translate {
     guests: Guests,
@@ -16,13 +16,15 @@ pub struct Translate {
     output: Vec<u8>,
 }
 
-impl Translate {
-    pub fn new() -> Translate {
+impl Default for Translate {
+    fn default() -> Translate {
         let fill = Random(0).bytes(LONGEST + 64);
-        let (guests, block, output) = (Guests::new(), vec![0; LONGEST], fill.clone());
+        let (guests, block, output) = (Guests::default(), vec![0; LONGEST], fill.clone());
         Translate { guests, block, fill, output }
     }
+}
 
+impl Translate {
     /// The library's answer, and whether the output is `length` bytes of the Rust's block and then as it was.
     fn ask(&mut self, case: &Case, length: usize) -> (Answer, bool) {
         let (guest, host) = question(case);
@@ -35,14 +37,12 @@ impl Translate {
     }
 }
 
-/// The output bytes offered for a block of so many: exactly enough, one less, any number.
+/// The output bytes offered for a block of so many: enough, one less, any number below.
 fn room(random: &mut Random, length: usize) -> usize {
     match random.below(16) {
-        0..=5 => length,
-        6 => length.max(1) - 1,
-        7 => random.below(length + 1),
-        8 => length + 1 + random.below(16),
-        _ => LONGEST,
+        0 => length.max(1) - 1,
+        1 => random.below(length + 1),
+        _ => enough(random, length),
     }
 }
 

@@ -1,9 +1,6 @@
 //! include/hilofanur.h from C: compiled by gcc without a warning, linked with the library, run.
 
-#[allow(dead_code)]
-#[path = "../../oracle/src/marked.rs"]
-mod marked;
-
+use draw::marked::PRINTED;
 use std::path::Path;
 use std::process::Command;
 
@@ -21,6 +18,6 @@ fn from_c() {
     assert!(compiled.status.success(), "{}", String::from_utf8_lossy(&compiled.stderr));
     let ran = Command::new(&program).output().unwrap();
     let others = "refused 1\nrefused 6\nplaced 8 28\nran 1 1002 ff\nend 1 5 1002\n";
-    assert_eq!(String::from_utf8_lossy(&ran.stdout), [marked::PRINTED, others].concat());
+    assert_eq!(String::from_utf8_lossy(&ran.stdout), [PRINTED, others].concat());
     assert!(ran.status.success());
 }

@@ -1,14 +1,12 @@
 //! Document 01's "Marked blocks", asked of the library.
 
-#[path = "../../oracle/src/marked.rs"]
-mod marked;
-
+use draw::marked::{self, Found, Row};
+use draw::{words, Case};
 use hilofanur::{boundary, translate, Guest, Host, Refusal};
-use marked::{Found, Row};
 
 fn question(row: &Row) -> (Guest<'_>, Host) {
-    let Row { guest, pc, limit, slot_offset, .. } = row;
-    let [memory_helper, helper32, helper16] = marked::HELPERS;
+    let Case { guest, pc, limit, slot_offset, helpers, .. } = &row.case;
+    let [memory_helper, helper32, helper16] = *helpers;
     (
         Guest { bytes: guest, pc: *pc, limit: *limit, ignore_ebreak: false },
         Host { slot_offset: *slot_offset, memory_helper, helper32, helper16 },
@@ -32,7 +30,7 @@ fn rows_hold() {
 fn refused_rows_by_name() {
     for row in marked::rows() {
         let (guest, host) = question(&row);
-        let answer = translate(&guest, &host, &mut vec![0; row.room]);
+        let answer = translate(&guest, &host, &mut vec![0; row.case.room]);
         match row.found {
             Found::Refused(number) => {
                 assert_eq!(answer, Err(Refusal::from_number(number).unwrap()), "{}", row.name);
@@ -50,8 +48,8 @@ fn row_5_printed() {
     let mut output = [0; hilofanur::LONGEST_BLOCK];
     let block = translate(&guest, &host, &mut output).unwrap();
     let mut text = String::new();
-    for word in output[..block.length].as_chunks().0 {
-        text += &format!("{:08x}\n", u32::from_le_bytes(*word));
+    for word in words(&output[..block.length]) {
+        text += &format!("{word:08x}\n");
     }
     assert_eq!(text + &format!("{}\n", block.count), marked::PRINTED);
 }

@@ -1,20 +1,19 @@
 //! emuko's own translator, built from its source text, behind document 01's operations.
 
-pub mod draw;
 mod emuko;
-pub mod marked;
 pub mod program;
-pub mod random;
 pub mod record;
 pub mod rows;
 pub mod rules;
 
+use draw::Case;
 pub use emuko::{compressed_immediates, decode, place, translate, Answer, Decoded, Placed};
 
-/// 1,862 words, the longest block.
-pub const LONGEST: usize = 7_448;
+/// Whether the Rust is built with its overflow checks and assertions.
+pub const CHECKED: bool = cfg!(debug_assertions);
 
-/// The little-endian words of a block.
-pub fn words(block: &[u8]) -> Vec<u32> {
-    block.chunks_exact(4).map(|w| u32::from_le_bytes([w[0], w[1], w[2], w[3]])).collect()
+/// What the Rust answers to a question; `output` takes the block.
+pub fn ask(case: &Case, output: &mut [u8]) -> Answer {
+    let Case { guest, pc, limit, ignore_ebreak, slot_offset, helpers, .. } = case;
+    translate(guest, *pc, *limit, *ignore_ebreak, *slot_offset, *helpers, output)
 }

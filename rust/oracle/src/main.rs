@@ -1,19 +1,23 @@
 //! The oracle's commands; the README says what each does.
 
-use oracle::random::Random;
-use oracle::rules::Case;
-use oracle::{program, record, rows, rules, LONGEST};
+use draw::guest::Guests;
+use draw::Random;
+use oracle::{program, record, rows, rules};
 use std::io::{Read, Write};
 use std::path::Path;
 
 const USE: &str =
     "use: oracle translate < INPUT | rows | record ROOT | check ROOT | fuzz COUNT [SEED]";
 
-fn fail(lines: &[String]) -> ! {
-    for line in lines.iter().take(20) {
+/// Ends the program if there is a difference.
+fn none_differs(wrong: &[String]) {
+    if wrong.is_empty() {
+        return;
+    }
+    for line in wrong.iter().take(20) {
         eprintln!("oracle: {line}");
     }
-    eprintln!("oracle: {} differ", lines.len());
+    eprintln!("oracle: {} differ", wrong.len());
     std::process::exit(1)
 }
 
@@ -25,14 +29,10 @@ fn translate() {
 
 fn check_rows() {
     let (asked, wrong) = rows::check();
-    if !wrong.is_empty() {
-        fail(&wrong);
-    }
+    none_differs(&wrong);
     println!("oracle: {asked} rows of document 01 as the Rust has them");
     let (asked, wrong) = rules::check();
-    if !wrong.is_empty() {
-        fail(&wrong);
-    }
+    none_differs(&wrong);
     println!("oracle: {asked} instructions and places by document 01's rules as the Rust has them");
 }
 
@@ -57,29 +57,21 @@ fn check_files(root: &Path) {
             Ok(_) => println!("oracle: {name} as the Rust has it, {} bytes", bytes.len()),
         }
     }
-    if !wrong.is_empty() {
-        fail(&wrong);
-    }
+    none_differs(&wrong);
 }
 
 /// Random blocks by document 01's rules; a panic of the source ends the run.
 fn fuzz(count: usize, seed: u64) {
     let mut random = Random(seed);
-    let recorded = record::cases();
+    let guests = Guests::default();
     let mut wrong = Vec::new();
     let (mut instructions, mut longest) = (0, 0);
     for _ in 0..count {
-        let mut guest = Vec::new();
-        for _ in 0..1 + random.below(6) {
-            guest.extend(&recorded[random.below(recorded.len())].guest);
+        let mut case = guests.case(&mut random);
+        if random.below(3) == 0 {
+            case.room = random.below(256);
         }
-        if random.below(4) == 0 {
-            let (at, bit) = (random.below(guest.len() + 1), random.below(8));
-            guest.iter_mut().skip(at).take(1).for_each(|byte| *byte ^= 1 << bit);
-        }
-        let case: &Case = &recorded[random.below(recorded.len())];
-        let room = random.pick(&[case.room, LONGEST, LONGEST]);
-        match rules::compare(&Case { guest, room, ..case.clone() }) {
+        match rules::compare(&case) {
             Ok(answer) => {
                 instructions += answer.count as u64;
                 longest = longest.max(answer.length);
@@ -87,9 +79,7 @@ fn fuzz(count: usize, seed: u64) {
             Err(text) => wrong.push(text),
         }
     }
-    if !wrong.is_empty() {
-        fail(&wrong);
-    }
+    none_differs(&wrong);
     println!("oracle: {count} blocks, {instructions} instructions, longest block {longest} bytes");
 }
 

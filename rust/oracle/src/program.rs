@@ -1,7 +1,8 @@
 //! Document 01's program: standard input in, lines out.
 
-use crate::marked::HELPERS;
-use crate::{translate, words, LONGEST};
+use crate::translate;
+use draw::marked::HELPERS;
+use draw::{words, LONGEST};
 
 pub fn run(input: &[u8]) -> String {
     if input.len() < 13 {

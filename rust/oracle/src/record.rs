@@ -1,14 +1,16 @@
 //! The recorded answers: cases drawn from a fixed seed, each with what the Rust says of it.
 //! The README describes the files byte by byte.
 
-use crate::draw::{draw, draw_case, draw_next, helper, inline32, Form};
-use crate::draw::{BAD_SLOTS, HELPERS, INLINE16, LEFTOVER, UNCOVERED};
-use crate::random::Random;
-use crate::rules::{ask, Case};
-use crate::{compressed_immediates, decode, place, LONGEST};
+use crate::{ask, compressed_immediates, decode, place};
+use draw::case::{self, BAD_SLOTS, HELPERS};
+use draw::forms::{self, helper, inline, inline32, Form, INLINE16};
+use draw::guest::{instruction, next_instruction, stream};
+use draw::marked::{DIV, LONG_PC};
+use draw::place::PlaceCase;
+use draw::{Case, Random, LONGEST};
 
-pub const SEED: u64 = 0x2B13_4309_95A6_4001;
-pub const MAGIC: &[u8; 8] = b"A64BLOCK";
+const SEED: u64 = 0x2B13_4309_95A6_4001;
+const MAGIC: &[u8; 8] = b"A64BLOCK";
 
 fn block_length(case: &Case) -> usize {
     let mut output = [0; LONGEST];
@@ -17,12 +19,7 @@ fn block_length(case: &Case) -> usize {
 
 /// An accepted case's room: what the block needs, or more.
 fn enough(random: &mut Random, mut case: Case) -> Case {
-    let length = block_length(&case);
-    case.room = match random.below(3) {
-        0 => length,
-        1 => length + 1 + random.below(16),
-        _ => LONGEST,
-    };
+    case.room = case::enough(random, block_length(&case));
     case
 }
 
@@ -30,13 +27,13 @@ fn enough(random: &mut Random, mut case: Case) -> Case {
 fn draw_form(random: &mut Random, form: Form, before: usize) -> Case {
     let mut guest = Vec::new();
     for _ in 0..before {
-        guest.extend(draw_next(random, &INLINE16));
+        guest.extend(next_instruction(random, &INLINE16));
     }
-    guest.extend(draw(random, form));
+    guest.extend(instruction(random, form));
     if random.below(3) == 0 {
-        guest.extend(draw_next(random, &INLINE16));
+        guest.extend(next_instruction(random, &INLINE16));
     }
-    let mut case = draw_case(random, guest);
+    let mut case = Case::draw(random, guest);
     if random.below(4) != 0 {
         case.limit = case.limit.max(before as u32 + 1);
     }
@@ -44,14 +41,12 @@ fn draw_form(random: &mut Random, form: Form, before: usize) -> Case {
 }
 
 fn by_form(random: &mut Random, cases: &mut Vec<Case>) {
-    for forms in [inline32(), INLINE16.to_vec(), helper(), LEFTOVER.to_vec(), UNCOVERED.to_vec()] {
-        for form in forms {
-            for _ in 0..13 {
-                cases.push(draw_form(random, form, 0));
-            }
-            for before in [1, 1, 1, 1, 2, 2, 3] {
-                cases.push(draw_form(random, form, before));
-            }
+    for form in forms::all() {
+        for _ in 0..13 {
+            cases.push(draw_form(random, form, 0));
+        }
+        for before in [1, 1, 1, 1, 2, 2, 3] {
+            cases.push(draw_form(random, form, before));
         }
     }
 }
@@ -61,18 +56,18 @@ fn refusals(random: &mut Random, cases: &mut Vec<Case>) {
     let guests: [&[u8]; 5] = [&[1, 0], &[0x7d, 0x55, 0x82, 0x80], &[], &[3], &[0x41, 0x9c]];
     for guest in guests {
         for slot_offset in BAD_SLOTS {
-            let case = draw_case(random, guest.to_vec());
+            let case = Case::draw(random, guest.to_vec());
             let limit = random.pick(&[0, 1]);
             cases.push(Case { slot_offset, limit, pc: case.pc ^ random.next() & 1, ..case });
         }
         for _ in 0..8 {
-            let case = draw_case(random, guest.to_vec());
+            let case = Case::draw(random, guest.to_vec());
             cases.push(Case { limit: 0, pc: case.pc ^ random.next() & 1, ..case.clone() });
             cases.push(Case { pc: case.pc | 1, room: random.pick(&[0, LONGEST]), ..case.clone() });
             cases.push(Case { room: 0, ..case });
         }
     }
-    for form in [inline32(), INLINE16.to_vec(), helper()].concat() {
+    for form in [inline(), helper()].concat() {
         let case = draw_form(random, form, 1);
         let length = block_length(&case);
         for room in [length.max(1) - 1, random.below(length.max(1))] {
@@ -86,9 +81,9 @@ fn cuts(random: &mut Random, cases: &mut Vec<Case>) {
     let forms = [inline32(), helper()].concat();
     for _ in 0..24 {
         let form = random.pick(&forms);
-        let short = draw_next(random, &INLINE16);
-        let guest = [draw(random, form), short, draw_next(random, &forms)].concat();
-        let case = draw_case(random, guest);
+        let short = next_instruction(random, &INLINE16);
+        let guest = [instruction(random, form), short, next_instruction(random, &forms)].concat();
+        let case = Case::draw(random, guest);
         for length in 0..=case.guest.len() {
             let guest = case.guest[..length].to_vec();
             let case = Case { guest, limit: case.limit.max(2), ..case.clone() };
@@ -99,24 +94,19 @@ fn cuts(random: &mut Random, cases: &mut Vec<Case>) {
 
 /// Longer blocks of every inline form, around the limits.
 fn sequences(random: &mut Random, cases: &mut Vec<Case>) {
-    let forms = [inline32(), INLINE16.to_vec()].concat();
-    let all = [&forms[..], &helper(), &LEFTOVER, &UNCOVERED].concat();
+    let (inline, all) = (inline(), forms::all());
     for index in 0..170 {
         let many = if index < 12 { 60 + random.below(7) } else { 2 + random.below(10) };
-        let mut guest = Vec::new();
-        for _ in 0..many {
-            guest.extend(draw_next(random, if many > 20 { &INLINE16 } else { &forms }));
-        }
-        let form = random.pick(&all);
-        guest.extend(draw(random, form));
-        let case = draw_case(random, guest);
+        let forms = if many > 20 { &INLINE16 } else { &inline[..] };
+        let guest = stream(random, many, forms, &all);
+        let case = Case::draw(random, guest);
         cases.push(enough(random, case));
     }
     for limit in [0, 1, 2, 63, 64, 65, u32::MAX] {
         for many in [0, 1, 2, 62, 63, 64, 65, 66] {
             for last in [&[0x02, 0x90][..], &[0x82, 0x80], &[0x41, 0x9c], &[0x03, 0x30, 0, 0]] {
                 let guest = [[0x01, 0x00].repeat(many), last.to_vec()].concat();
-                let case = Case { limit, ..draw_case(random, guest) };
+                let case = Case { limit, ..Case::draw(random, guest) };
                 cases.push(enough(random, case));
             }
         }
@@ -126,9 +116,8 @@ fn sequences(random: &mut Random, cases: &mut Vec<Case>) {
 /// Bytes from anywhere.
 fn bytes(random: &mut Random, cases: &mut Vec<Case>) {
     for _ in 0..500 {
-        let length = random.below(13);
-        let guest = random.bytes(length);
-        let mut case = draw_case(random, guest);
+        let guest = random.bytes_below(13);
+        let mut case = Case::draw(random, guest);
         case.limit = random.pick(&[0, 1, 2, 64, 64, 64]);
         case.pc ^= (random.below(12) == 0) as u64;
         case.room = random.pick(&[0, 11, 12, 16, 40, LONGEST, LONGEST]);
@@ -138,28 +127,20 @@ fn bytes(random: &mut Random, cases: &mut Vec<Case>) {
 
 /// 64 DIV, 64 REM, and 63 DIV with a helper, a jump and leftover words behind them.
 fn largest(random: &mut Random, cases: &mut Vec<Case>) {
-    let div = [0xb3, 0x42, 0x73, 0x02];
-    let case = Case {
-        guest: div.repeat(64),
-        pc: 0x0001_0001_0001_0000,
-        limit: 64,
-        ignore_ebreak: false,
-        slot_offset: 32_512,
-        helpers: HELPERS[4],
-        room: LONGEST,
-    };
+    let (slot_offset, helpers) = (32_512, HELPERS[4]);
+    let case = Case { pc: LONG_PC, slot_offset, helpers, ..Case::new(&DIV.repeat(64), 64) };
     cases.push(case.clone());
     cases.push(Case { room: LONGEST - 1, ..case.clone() });
     cases.push(Case { limit: u32::MAX, room: LONGEST + 4, ..case.clone() });
     cases.push(Case { guest: [0xb3, 0x62, 0x73, 0x02].repeat(64), ..case.clone() });
     for last in [[0x23, 0x3f, 0x53, 0xfe], [0xe7, 0x82, 0x02, 0x80], [0xb3, 0x22, 0x73, 0x40]] {
-        let guest = [div.repeat(63), last.to_vec()].concat();
+        let guest = [DIV.repeat(63), last.to_vec()].concat();
         cases.push(enough(random, Case { guest, ..case.clone() }));
     }
 }
 
 /// The cases of `blocks.bin`.
-pub fn cases() -> Vec<Case> {
+fn cases() -> Vec<Case> {
     let mut random = Random(SEED);
     let mut cases = Vec::new();
     by_form(&mut random, &mut cases);
@@ -261,27 +242,13 @@ fn compressed() -> Vec<u8> {
 fn placed() -> Vec<u8> {
     let mut random = Random(SEED + 3);
     let mut file = Vec::new();
-    for index in 0..800u32 {
+    for index in 0..800 {
         let size = random.below(25);
-        let used = match index % 16 {
-            0 => random.pick(&[1 << 32, 1 << 63, u64::MAX - 3, u64::MAX - 2, u64::MAX]),
-            1 => size as u64 + 1 + random.below(4) as u64,
-            2 => size as u64,
-            _ => random.below(size + 1) as u64,
-        };
-        let start = u128::from(used).next_multiple_of(4);
-        let left = (size as u128).saturating_sub(start) as usize;
-        let length = match index % 4 {
-            0 => left,
-            1 => left + 1,
-            _ => random.below(left + 2),
-        };
-        let mut store = random.bytes(size);
-        let code = random.bytes(length);
+        let PlaceCase { mut store, used, code } = PlaceCase::draw(&mut random, size, index, index);
         file.push(size as u8);
         file.extend(&store);
         file.extend(used.to_le_bytes());
-        file.push(length as u8);
+        file.push(code.len() as u8);
         file.extend(&code);
         let answer = place(&mut store, used, &code);
         file.push(answer.refusal as u8);

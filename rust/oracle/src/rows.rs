@@ -1,11 +1,13 @@
 //! Document 01's "Marked blocks", asked of the Rust.
 
-use crate::marked::{differs, rows, Row, HELPERS, PRINTED};
-use crate::{program, translate};
+use crate::{ask, program};
+use draw::marked::{differs, rows, Row, PRINTED};
 
-fn ask(row: &Row, output: &mut [u8]) -> [u32; 4] {
-    let a = translate(&row.guest, row.pc, row.limit, false, row.slot_offset, HELPERS, output);
-    [a.refusal, a.length, a.count, a.helper]
+fn asked(row: &Row) -> Option<String> {
+    differs(row, |output| {
+        let a = ask(&row.case, output);
+        [a.refusal, a.length, a.count, a.helper]
+    })
 }
 
 /// Row 5 as document 01's program prints it.
@@ -24,7 +26,6 @@ fn printed() -> Option<String> {
 /// The rows that differ, and how many were asked.
 pub fn check() -> (usize, Vec<String>) {
     let rows = rows();
-    let asked = |row: &Row| differs(row, |output| ask(row, output));
     let mut wrong: Vec<String> = rows.iter().filter_map(asked).collect();
     wrong.extend(printed());
     (rows.len() + 1, wrong)

@@ -1,87 +1,8 @@
 //! Document 01's "How a block is read" and "Place", read a second time and compared with the Rust.
 
-use crate::marked::HELPERS;
-use crate::random::Random;
-use crate::{place, translate, Answer, LONGEST};
-
-#[derive(Clone, Copy, PartialEq, Eq, Debug)]
-pub enum Class {
-    /// Inline, and the block goes on.
-    Next,
-    /// Inline, and ends the block.
-    Ends,
-    Helper,
-    Uncovered,
-}
-
-fn inline(covered: bool) -> Class {
-    if covered {
-        Class::Next
-    } else {
-        Class::Uncovered
-    }
-}
-
-/// Rules 2 to 4 for a 16-bit instruction.
-pub fn class16(instr: u16, ignore_ebreak: bool) -> Class {
-    let funct3 = instr >> 13;
-    let rd = instr >> 7 & 31;
-    let rs2 = instr >> 2 & 31;
-    let bit12 = instr >> 12 & 1;
-    let zero6 = bit12 == 0 && rs2 == 0;
-    match (instr & 3, funct3) {
-        (0 | 2, 2 | 3 | 6 | 7) => Class::Helper,
-        (0, 0) => inline(instr >> 5 & 0xff != 0),
-        (1, 0 | 2) => Class::Next,
-        (1, 1) => inline(rd != 0),
-        (1, 3) => inline(rd != 0 && !zero6),
-        (1, 4) => inline(!(instr >> 10 & 3 == 3 && bit12 == 1 && instr >> 6 & 1 == 1)),
-        (1, 5..=7) => Class::Ends,
-        (2, 0) => inline(rd != 0),
-        (2, 4) if rs2 != 0 => inline(rd != 0),
-        (2, 4) if rd != 0 => Class::Ends,
-        (2, 4) => inline(bit12 == 1 && ignore_ebreak),
-        _ => Class::Uncovered,
-    }
-}
-
-/// Rules 2 to 4 for a 32-bit instruction.
-pub fn class32(instr: u32) -> Class {
-    let funct3 = instr >> 12 & 7;
-    let funct7 = instr >> 25;
-    match instr & 0x7f {
-        0x37 | 0x17 => Class::Next,
-        0x6f | 0x67 => Class::Ends,
-        0x63 if funct3 != 2 && funct3 != 3 => Class::Ends,
-        0x13 => inline(match funct3 {
-            1 => funct7 >> 1 == 0,
-            5 => funct7 >> 1 == 0 || funct7 >> 1 == 16,
-            _ => true,
-        }),
-        0x1b => inline(match funct3 {
-            0 => true,
-            1 => funct7 == 0,
-            5 => funct7 == 0 || funct7 == 32,
-            _ => false,
-        }),
-        0x33 => inline(match funct7 {
-            0 | 1 => true,
-            32 => funct3 == 0 || funct3 == 5,
-            _ => false,
-        }),
-        0x3b => inline(match funct7 {
-            0 => matches!(funct3, 0 | 1 | 5),
-            1 => matches!(funct3, 0 | 4 | 5 | 6 | 7),
-            32 => matches!(funct3, 0 | 5),
-            _ => false,
-        }),
-        0x0f => inline(funct3 < 2),
-        0x03 if funct3 != 7 => Class::Helper,
-        0x23 if funct3 < 4 => Class::Helper,
-        0x07 | 0x27 | 0x2f => Class::Helper,
-        _ => Class::Uncovered,
-    }
-}
+use crate::{ask, place, Answer};
+use draw::class::{first, Class};
+use draw::{Case, Random, LONGEST};
 
 /// Rule 7: the uncovered encodings that leave scratch words.
 fn leaves(instr: u32) -> bool {
@@ -89,7 +10,7 @@ fn leaves(instr: u32) -> bool {
 }
 
 /// Rules 1 and 5: refusal, count and whether a helper ends the block. 1 and 6 stand aside.
-pub fn walk(guest: &[u8], pc: u64, limit: u32, ignore_ebreak: bool) -> (u32, u32, u32) {
+fn walk(guest: &[u8], pc: u64, limit: u32, ignore_ebreak: bool) -> (u32, u32, u32) {
     if limit == 0 {
         return (2, 0, 0);
     }
@@ -98,15 +19,7 @@ pub fn walk(guest: &[u8], pc: u64, limit: u32, ignore_ebreak: bool) -> (u32, u32
     }
     let (mut at, mut count) = (0, 0);
     while count < limit.min(64) {
-        let fetched = guest.get(at..at + 2).map(|h| u16::from_le_bytes([h[0], h[1]]));
-        let class = match fetched {
-            Some(low) if low & 3 != 3 => Some((class16(low, ignore_ebreak), 2)),
-            Some(_) => guest
-                .get(at..at + 4)
-                .map(|w| (class32(u32::from_le_bytes([w[0], w[1], w[2], w[3]])), 4)),
-            None => None,
-        };
-        match class {
+        match first(&guest[at..], ignore_ebreak) {
             None if count == 0 => return (4, 0, 0),
             Some((Class::Uncovered, _)) if count == 0 => return (5, 0, 0),
             None | Some((Class::Uncovered, _)) => break,
@@ -123,24 +36,6 @@ pub fn walk(guest: &[u8], pc: u64, limit: u32, ignore_ebreak: bool) -> (u32, u32
 
 const FILL: u8 = 0xA5;
 const RET: [u8; 4] = [0xC0, 0x03, 0x5F, 0xD6];
-
-/// A question to Translate.
-#[derive(Clone, Debug)]
-pub struct Case {
-    pub guest: Vec<u8>,
-    pub pc: u64,
-    pub limit: u32,
-    pub ignore_ebreak: bool,
-    pub slot_offset: u64,
-    pub helpers: [u64; 3],
-    /// The length of the output bytes offered.
-    pub room: usize,
-}
-
-pub fn ask(case: &Case, output: &mut [u8]) -> Answer {
-    let Case { guest, pc, limit, ignore_ebreak, slot_offset, helpers, .. } = case;
-    translate(guest, *pc, *limit, *ignore_ebreak, *slot_offset, *helpers, output)
-}
 
 /// The Rust's answer if it is as the rules say, else what differs.
 pub fn compare(case: &Case) -> Result<Answer, String> {
@@ -172,19 +67,14 @@ pub fn compare(case: &Case) -> Result<Answer, String> {
     }
 }
 
-fn short(guest: Vec<u8>, limit: u32, ignore_ebreak: bool) -> Case {
-    let (pc, slot_offset, helpers) = (0x1000, 0, HELPERS);
-    Case { guest, pc, limit, ignore_ebreak, slot_offset, helpers, room: LONGEST }
-}
-
 /// One instruction first, with a C.NOP behind it, and behind a C.NOP.
 fn instruction(instr: u32, ignore_ebreak: bool, wrong: &mut Vec<String>) {
     let size = if instr & 3 == 3 { 4 } else { 2 };
     let bytes = &instr.to_le_bytes()[..size];
     let nop = [0x01, 0x00];
-    wrong.extend(compare(&short([bytes, &nop].concat(), 2, ignore_ebreak)).err());
-    let behind = short([&nop, bytes].concat(), 2, ignore_ebreak);
-    match compare(&behind) {
+    let block = |guest: [&[u8]; 2]| Case { ignore_ebreak, ..Case::new(&guest.concat(), 2) };
+    wrong.extend(compare(&block([bytes, &nop])).err());
+    match compare(&block([&nop, bytes])) {
         Err(text) => wrong.push(text),
         Ok(answer) if answer.count == 1 && (answer.length > 12) != leaves(instr) => {
             wrong.push(format!("{instr:x}: {answer:?} against rule 7"));

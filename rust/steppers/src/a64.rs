@@ -8,6 +8,18 @@ pub struct A64State {
     pub nzcv: u64,
 }
 
+impl A64State {
+    /// The state as the library takes it: X0 to X30, SP, NZCV, eight little-endian bytes each.
+    pub fn to_bytes(&self) -> [u8; 264] {
+        let mut bytes = [0; 264];
+        let numbers = self.x.into_iter().chain([self.sp, self.nzcv]);
+        for (eight, number) in bytes.as_chunks_mut().0.iter_mut().zip(numbers) {
+            *eight = number.to_le_bytes();
+        }
+        bytes
+    }
+}
+
 #[derive(Clone, Copy, Debug, PartialEq, Eq)]
 pub struct A64Answer {
     pub refusal: u32,
@@ -21,34 +33,6 @@ pub const UNREADABLE: u32 = 3;
 pub const FAULT: u32 = 4;
 pub const RETURNED: u32 = 5;
 pub const CALLED: u32 = 6;
-
-/// The 24 forms: which bits are fixed, and their values.
-pub const FORMS: [(u32, u32); 24] = [
-    (0xFFC0_0000, 0xF940_0000), // LDR
-    (0xFFC0_0000, 0xF900_0000), // STR
-    (0xFFE0_FC00, 0x8B00_0000), // ADD
-    (0xFFE0_FC00, 0xCB00_0000), // SUB
-    (0xFFE0_FC00, 0x8A00_0000), // AND
-    (0xFFE0_FC00, 0xAA00_0000), // ORR
-    (0xFFE0_FC00, 0xCA00_0000), // EOR
-    (0xFFE0_FC00, 0x9AC0_2000), // LSLV
-    (0xFFE0_FC00, 0x9AC0_2400), // LSRV
-    (0xFFE0_FC00, 0x9AC0_2800), // ASRV
-    (0xFFE0_FC00, 0x9B00_7C00), // MUL
-    (0xFFE0_FC00, 0x9B40_7C00), // SMULH
-    (0xFFE0_FC00, 0x9BC0_7C00), // UMULH
-    (0xFFE0_FC00, 0x9AC0_0800), // UDIV
-    (0xFFE0_FC00, 0x9AC0_0C00), // SDIV
-    (0xFFE0_FC1F, 0xEB00_001F), // CMP
-    (0xFFE0_0C00, 0x9A80_0000), // CSEL
-    (0xFFFF_FC00, 0x9340_7C00), // SXTW
-    (0xFFC0_03FF, 0x9100_03FF), // ADD SP
-    (0xFFC0_03FF, 0xD100_03FF), // SUB SP
-    (0xFF80_0000, 0xD280_0000), // MOVZ
-    (0xFF80_0000, 0xF280_0000), // MOVK
-    (0xFFFF_FC1F, 0xD63F_0000), // BLR
-    (0xFFFF_FFFF, 0xD65F_03C0), // RET
-];
 
 /// Runs the block from word 0. `address` is that of word 0, `base` that of the memory's first byte.
 pub fn a64_run(
@@ -223,6 +207,8 @@ fn holds(cond: u32, nzcv: u64) -> bool {
 #[cfg(test)]
 mod tests {
     use super::*;
+    use draw::forms::{encode, A64};
+    use draw::Random;
 
     #[test]
     fn refusals_change_nothing() {
@@ -250,16 +236,15 @@ mod tests {
     /// Each form with many fields, and the words one or two bits away.
     #[test]
     fn readable_words_are_the_forms() {
-        let mut fields = 1_u32;
-        for (mask, value) in FORMS {
+        let mut random = Random(1);
+        for form in A64 {
             for _ in 0..100 {
-                fields = fields.wrapping_mul(1_664_525).wrapping_add(1_013_904_223);
-                let word = value | (fields ^ fields >> 16) & !mask;
+                let word = encode(form, random.next() as u32);
                 for (i, j) in (0..32).flat_map(|i| (0..33).map(move |j| (i, j))) {
                     let word = word ^ 1 << i ^ (1_u64 << j) as u32;
                     let mut state = A64State { x: [0; 31], sp: 0, nzcv: 0 };
                     let answer = a64_run(&word.to_le_bytes(), 0, &mut state, 1, &mut [], 0);
-                    let readable = FORMS.iter().any(|&(mask, value)| word & mask == value);
+                    let readable = A64.iter().any(|&(value, fixed)| word & fixed == value);
                     assert_eq!(answer.end != UNREADABLE, readable, "{word:08x}");
                 }
             }

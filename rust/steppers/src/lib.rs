@@ -6,6 +6,6 @@ pub mod records;
 mod rv64;
 
 pub use a64::{
-    a64_run, A64Answer, A64State, CALLED, FAULT, FORMS, OFF_THE_END, RETURNED, SPENT, UNREADABLE,
+    a64_run, A64Answer, A64State, CALLED, FAULT, OFF_THE_END, RETURNED, SPENT, UNREADABLE,
 };
 pub use rv64::{rv64_run, Rv64Answer};

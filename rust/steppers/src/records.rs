@@ -1,4 +1,4 @@
-//! Reads the cases recorded from outside machines; the formats stand in rust/machines/README.md.
+//! Reads the cases recorded from outside machines; the formats stand in machines/README.md.
 
 use crate::{A64Answer, A64State, Rv64Answer};
 

@@ -319,6 +319,7 @@ fn step16(instr: u16, pc: u64, ignore_ebreak: bool, x: &mut [u64; 32]) -> Flow {
 #[cfg(test)]
 mod tests {
     use super::*;
+    use draw::class::{class16, Class};
 
     fn run(guest: &[u8], pc: u64, limit: u32, ignore_ebreak: bool) -> Rv64Answer {
         rv64_run(guest, pc, limit, ignore_ebreak, &mut [0; 32])
@@ -381,19 +382,9 @@ mod tests {
             if instr & 3 == 3 {
                 continue;
             }
-            let (funct3, rd, rs2) = (instr >> 13, instr >> 7 & 31, instr >> 2 & 31);
-            let covered = match (instr & 3, funct3) {
-                (0, 0) => instr >> 5 != 0,
-                (1, 1) => rd != 0,
-                (1, 3) => rd != 0 && instr & 0x107C != 0,
-                (1, 4) => instr & 0x1C40 != 0x1C40,
-                (1, _) => true,
-                (2, 0) => rd != 0,
-                (2, 4) => rd != 0 || instr == 0x9002,
-                _ => false,
-            };
+            let covered = matches!(class16(instr, true), Class::Next | Class::Ends);
             let answer = run(&instr.to_le_bytes(), 0x1000, 1, true);
-            assert_eq!(answer.refusal, if covered { 0 } else { 5 }, "{instr:04x} {rs2}");
+            assert_eq!(answer.refusal, if covered { 0 } else { 5 }, "{instr:04x}");
         }
     }
 }

@@ -2,6 +2,7 @@
 
 use super::code::HOST;
 use super::memory::Access;
+use draw::Random;
 use hilofanur::{a64_run, rv64_run, A64Run, A64State, Block, End, Guest, Refusal, Registers};
 use std::ops::Range;
 
@@ -51,14 +52,10 @@ impl HostSide {
     /// X0 to the slots, SP to the stack, anything in the others, another thing each time.
     fn entry(&mut self) -> A64State {
         self.runs += 1;
-        let mut any = self.runs;
-        let mut next = || {
-            any = any.wrapping_mul(0x5851_F42D_4C95_7F2D).wrapping_add(0x1405_7B7E_F767_814F);
-            any
-        };
-        let mut x = std::array::from_fn(|_| next());
+        let mut random = Random(self.runs);
+        let mut x = std::array::from_fn(|_| random.next());
         x[0] = HART;
-        A64State { x, sp: SP, nzcv: next() >> 60 }
+        A64State { x, sp: SP, nzcv: random.below(16) as u64 }
     }
 
     /// Runs the block's words with the registers in the slots, and the guest's instructions beside it.

@@ -6,7 +6,7 @@ mod guard;
 use guard::{Edge, Guarded};
 use hilofanur::boundary::{a64_run, place, rv64_run, translate};
 use hilofanur::boundary::{A64RunAnswer, PlaceAnswer, Rv64RunAnswer, TranslateAnswer};
-use hilofanur::{A64State, Guest, Host, Registers};
+use hilofanur::{Guest, Host, Registers};
 use std::os::unix::process::ExitStatusExt;
 use std::process::Command;
 use steppers::records::{a64_cases, rv64_cases, Reader};
@@ -116,10 +116,6 @@ fn rv64_runs() {
     }
 }
 
-fn state_bytes(state: &steppers::A64State) -> [u8; 264] {
-    A64State { x: state.x, sp: state.sp, nzcv: state.nzcv }.to_bytes()
-}
-
 #[test]
 fn a64_runs() {
     let mut cases = a64_cases(A64);
@@ -128,13 +124,13 @@ fn a64_runs() {
     for case in cases {
         for edge in EDGES {
             let block = Guarded::read_only(&case.block, edge);
-            let mut state = Guarded::new(&state_bytes(&case.before), edge);
+            let mut state = Guarded::new(&case.before.to_bytes(), edge);
             let mut memory = Guarded::new(&case.memory_before, edge);
             let lent = state.first_chunk_mut().unwrap();
             let answer = a64_run(&block, case.address, lent, case.budget, &mut memory, case.base);
             let (end, steps) = (case.answer.end, case.answer.steps);
             assert_eq!(answer, A64RunAnswer { refusal: 0, end, steps }, "{:x?}", case.block);
-            assert_eq!(*state, state_bytes(&case.after), "{:x?}", case.block);
+            assert_eq!(*state, case.after.to_bytes(), "{:x?}", case.block);
             assert_eq!(*memory, case.memory_after, "{:x?}", case.block);
         }
     }

@@ -23,6 +23,19 @@ impl Random {
         (0..length).map(|_| self.next() as u8).collect()
     }
 
+    /// Fewer than `bound` bytes.
+    pub fn bytes_below(&mut self, bound: usize) -> Vec<u8> {
+        let length = self.below(bound);
+        self.bytes(length)
+    }
+
+    /// Changes a bit, if there is one.
+    pub fn change_bit(&mut self, bytes: &mut [u8]) {
+        if !bytes.is_empty() {
+            bytes[self.below(bytes.len())] ^= 1 << self.below(8);
+        }
+    }
+
     /// A bit pattern: zeros, ones, one bit, sparse, dense or any.
     pub fn pattern(&mut self) -> u32 {
         let (a, b) = (self.next() as u32, self.next() as u32);
@@ -34,5 +47,19 @@ impl Random {
             4 => a | b,
             _ => a,
         }
+    }
+}
+
+#[cfg(test)]
+mod tests {
+    use super::*;
+
+    /// SplitMix64's first numbers from the seed 1234567.
+    #[test]
+    fn first_numbers() {
+        let mut random = Random(1_234_567);
+        let expected =
+            [6_457_827_717_110_365_317, 3_203_168_211_198_807_973, 9_817_491_932_198_370_423];
+        assert_eq!(expected.map(|_| random.next()), expected);
     }
 }

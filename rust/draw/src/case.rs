@@ -1,0 +1,132 @@
+//! Questions to Translate.
+
+use crate::guest::Guests;
+use crate::{marked, Random, LONGEST};
+
+/// A question to Translate.
+#[derive(Clone, Debug)]
+pub struct Case {
+    pub guest: Vec<u8>,
+    pub pc: u64,
+    pub limit: u32,
+    pub ignore_ebreak: bool,
+    pub slot_offset: u64,
+    /// Memory, 32-bit, 16-bit.
+    pub helpers: [u64; 3],
+    /// The length of the output bytes offered.
+    pub room: usize,
+}
+
+impl Case {
+    /// The question at PC 0x1000, slot 0 at X0, with document 01's helpers and room enough.
+    pub fn new(guest: &[u8], limit: u32) -> Case {
+        Case {
+            guest: guest.to_vec(),
+            pc: 0x1000,
+            limit,
+            ignore_ebreak: false,
+            slot_offset: 0,
+            helpers: marked::HELPERS,
+            room: LONGEST,
+        }
+    }
+
+    /// A question around `guest`, with room enough.
+    pub fn draw(random: &mut Random, guest: Vec<u8>) -> Case {
+        let pc = if random.below(4) == 0 { random.next() & !1 } else { random.pick(&PCS) };
+        let limit =
+            if random.below(8) == 0 { random.next() as u32 | 1 } else { random.pick(&LIMITS) };
+        let slot_offset = match random.below(4) {
+            0 => 8 * random.below(4_065) as u64,
+            _ => random.pick(&SLOTS),
+        };
+        let ignore_ebreak = random.below(2) == 0;
+        let helpers = draw_helpers(random);
+        Case { guest, pc, limit, ignore_ebreak, slot_offset, helpers, room: LONGEST }
+    }
+
+    /// Makes refusals 1 to 3 apply, some of them or none.
+    fn spoil(&mut self, random: &mut Random) {
+        match random.below(8) {
+            0 | 1 => self.slot_offset = random.pick(&BAD_SLOTS),
+            2 => self.slot_offset = (8 * random.below(64) as u64).wrapping_sub(256),
+            3 => self.slot_offset = random.next(),
+            _ => {}
+        }
+        if random.below(2) == 0 {
+            self.limit = 0;
+        }
+        if random.below(2) == 0 {
+            self.pc |= 1;
+        }
+    }
+}
+
+impl Guests {
+    /// A question to Translate. Refusals 1 to 3 apply to one in eight or so, now and then together.
+    pub fn case(&self, random: &mut Random) -> Case {
+        let guest = self.guest(random);
+        let mut case = Case::draw(random, guest);
+        if random.below(4) == 0 {
+            case.pc = (2 * random.below(200) as u64).wrapping_sub(200);
+        }
+        if random.below(8) == 0 {
+            case.spoil(random);
+        }
+        case
+    }
+}
+
+/// The output bytes offered for a block of so many: as many, a few more, or what the longest needs.
+pub fn enough(random: &mut Random, length: usize) -> usize {
+    match random.below(3) {
+        0 => length,
+        1 => length + 1 + random.below(16),
+        _ => LONGEST,
+    }
+}
+
+const PCS: [u64; 18] = [
+    0,
+    2,
+    4,
+    0x1000,
+    0x1002,
+    0x7ffc,
+    0xfffe,
+    0x7fff_fffe,
+    0x8000_0000,
+    0xffff_fffc,
+    0x1_0000_0000,
+    marked::LONG_PC,
+    0x7fff_ffff_ffff_fffe,
+    0x8000_0000_0000_0000,
+    0xffff_ffff_ffff_f000,
+    0xffff_ffff_ffff_fff8,
+    0xffff_ffff_ffff_fffc,
+    0xffff_ffff_ffff_fffe,
+];
+const LIMITS: [u32; 7] = [1, 2, 3, 63, 64, 65, u32::MAX];
+/// Slot offsets at the edges.
+pub const SLOTS: [u64; 3] = [0, 8, 32_512];
+/// Slot offsets that are refused.
+pub const BAD_SLOTS: [u64; 12] =
+    [1, 4, 7, 32_511, 32_513, 32_516, 32_520, 65_536, 65_544, 1 << 32, 1 << 63, u64::MAX];
+/// Addresses that take one to four words each.
+pub const HELPERS: [[u64; 3]; 5] = [
+    marked::HELPERS,
+    [0, 0, 0],
+    [u64::MAX, u64::MAX - 0xffff, 0xffff_ffff],
+    [0x0001_0000_0000_0000, 0x0000_ffff_0000_0000, 0x1234_0000_5678_0000],
+    [0x0000_0001_0000_0001, 0xffff_0000_0000_ffff, 0x7f80_1234_5678],
+];
+
+fn draw_helpers(random: &mut Random) -> [u64; 3] {
+    if random.below(2) == 0 {
+        return random.pick(&HELPERS);
+    }
+    [(); 3].map(|_| {
+        let kept = [0, 16, 32, 48].map(|shift| ((random.next() & 1) * 0xffff) << shift);
+        random.next() & kept.iter().sum::<u64>()
+    })
+}
