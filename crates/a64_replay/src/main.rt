@@ -1,4 +1,4 @@
-// Replays what an Arm machine was recorded to do, and document 01's own rules (rust/machines/README.md has the format).
+// Replays what an Arm machine was recorded to do, and document 01's own rules (machines/README.md has the format).
 ghost use Prim.Native.Nat.{_≤_};
 ghost use mathlib.Core.Path.{_≡_};
 ghost use lib.ListN.{length};

@@ -1,4 +1,4 @@
-// Replays what a RISC-V machine was recorded to do (rust/machines/README.md has the format).
+// Replays what a RISC-V machine was recorded to do (machines/README.md has the format).
 ghost use Prim.Native.Nat.{_≤_};
 ghost use mathlib.Core.Path.{_≡_};
 ghost use lib.ListN.{length};
