@@ -323,18 +323,28 @@ impl A64Emitter {
     }
 
     // One word more, or unchanged where it does not fit.
-    pub fn emit(self, w: u32) -> Self
+    pub fn emit(mut self, w: u32) -> Self
         ensures { λ r. ⌜ block-words r ≡ emitted-in max-words (block-words self) (w ∷ []) ⌝ }
     {
-        self.append(InstrEmitter::new().emit(w))
+        let at = self.len;
+        if at < MAX_WORDS {
+            self.words[at] = w;
+            self.len = at + 1;
+            return self;
+        }
+        self
     }
 
     // A constant more, or unchanged where its words do not all fit.
-    pub fn mov_imm64(self, rd: u8, val: u64) -> Self
+    pub fn mov_imm64(mut self, rd: u8, val: u64) -> Self
         requires { ⌜ rd < 32 ⌝ }
         ensures { λ r. ⌜ block-words r ≡ emitted-in max-words (block-words self) (encoded (constant rd val)) ⌝ }
     {
-        self.append(InstrEmitter::new().mov_imm64(rd, val))
+        let part = InstrEmitter::new().mov_imm64(rd, val);
+        let at = self.len;
+        let n = append_at(&mut self.words, at, &part.words, part.len);
+        self.len = n;
+        self
     }
 
     // The words as bytes at the front of `out`, where they fit; how many bytes they are.

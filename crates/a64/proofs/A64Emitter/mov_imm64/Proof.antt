@@ -1,16 +1,18 @@
 use native.Mathlib.Omega.{arith}
 use borrow.Author.Needs.{needs}
-use Rattle.a64.specs.Emitter.{constant}
+use Rattle.a64.specs.Emitter.{held, block-words, constant}
 use Rattle.a64.proofs.Emission.{emitted-new, constant-most, length-encoded}
 use Rattle.a64.proofs.A64Emitter.mov_imm64.Statement.{statement}
 use Rattle.a64.proofs.A64Emitter.mov_imm64.Tie as tie
 
 returns : tie.Need-returns
+unfolding held block-words
 returns c =
-    let a = c .before .before .before .args in
+    let d = c .before .before .before .before in
+    let a = d .before .before .args in
     let few = constant-most (a .rd) (a .val) in
     let k = length-encoded (constant (a .rd) (a .val)) in
-    rw (emitted-new _ _ _ (c .before .before .new .ensures) (c .before .mov-imm64 .ensures) (omega arith)) at (c .append .ensures)
+    rw (emitted-new _ _ _ (d .before .new .ensures) (d .mov-imm64 .ensures) (omega arith)) at (c .append-at .ensures .holds)
 
 pub mov-imm64-spec : {M : Type 1} → statement M
 mov-imm64-spec = tie.close (tie.spec (λ c κs. search needs) (λ c κs. search needs) (λ c κs. search needs) returns)
