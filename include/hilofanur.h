@@ -15,9 +15,23 @@
  *   10  block length not a multiple of 4
  *   11  memory base plus memory length exceeds 2^64
  *
- * Bytes are lent by a pointer and their number. A pointer is never null, even where the number is 0; it needs no
- * alignment. Bytes that a call may write overlap no others that it is lent. No pointer is kept after the call, no
- * state is kept between calls, and every call ends.
+ * Bytes are lent by a pointer and their number, which is below 2^63. A pointer is never null, even where the number is
+ * 0; it needs no alignment. Bytes that a call may write overlap no others that it is lent. No pointer is kept after the
+ * call, no state is kept between calls, and every call ends. Translate takes 12 KB of stack, the others 1 KB.
+ *
+ * How a block is called, on an Arm processor or by A64 run: from word 0, with X30 the address to return to and X0 such
+ * that register n has its slot, eight little-endian bytes, at X0 plus slot_offset plus 8n, a multiple of 8. Slot 0 holds 0.
+ * It returns by RET with X0 the next guest PC and X1 the guest instructions done; the slots hold the registers.
+ * X9 to X17 and NZCV are lost; X2 to X8, X18 to X30, SP and all other memory are as they were.
+ *
+ * A block that a helper ends calls it by BLR X16. SP is a multiple of 16, and the 16 bytes below it are the block's. The
+ * helper finds the slots with the registers before its instruction, and:
+ *   memory helper:     X0 to X2 what the caller had in X1 to X3, X3 the operation (0 to 6: LB LH LW LD LBU LHU LWU, 16 to
+ *                      19: SB SH SW SD), X4 bits 11 to 7 of the instruction (rd), X5 the value to store or 0, X6 the
+ *                      address, X7 the instruction's PC
+ *   the other helpers: X0 to X4 what the caller had in X1 to X5, X5 the instruction, X6 its PC
+ * It returns to X30 with X0 the next guest PC and X1 the instructions that it did; the block adds those before it to X1. It
+ * leaves SP, and the eight bytes at SP, where the caller's X30 is kept, as it found them.
  */
 #ifndef HILOFANUR_H
 #define HILOFANUR_H
@@ -68,7 +82,7 @@ struct hilofanur_place_answer hilofanur_place(
 struct hilofanur_rv64_run_answer {
     uint32_t refusal;
     uint32_t count;   /* the instructions done */
-    uint64_t next_pc; /* the PC behind them */
+    uint64_t next_pc; /* the PC after them */
 };
 
 /* RV64 run: does the guest's block on the registers, as the ISA says. It stops where translation would, and before a
@@ -81,7 +95,7 @@ enum hilofanur_end {
     HILOFANUR_OFF_THE_END = 1,
     HILOFANUR_SPENT = 2,      /* the budget is used */
     HILOFANUR_UNREADABLE = 3, /* a word outside the 24 forms */
-    HILOFANUR_FAULT = 4,
+    HILOFANUR_FAULT = 4,      /* an access not wholly inside memory, not a multiple of 8, or by SP not a multiple of 16 */
     HILOFANUR_RETURNED = 5, /* RET */
     HILOFANUR_CALLED = 6    /* BLR, with the next word's address in X30 */
 };

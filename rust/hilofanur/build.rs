@@ -6,6 +6,11 @@ use std::{env, fs};
 
 fn main() {
     println!("cargo:rerun-if-env-changed=HILOFANUR_LIB");
+    let target = env::var("CARGO_CFG_TARGET_ARCH").unwrap();
+    assert!(
+        target == "x86_64",
+        "libhilofanur.a is for x86-64: on {target} it wants an x86-64 process"
+    );
     let root = PathBuf::from(env::var("CARGO_MANIFEST_DIR").unwrap()).join("../..");
     let library = match env::var_os("HILOFANUR_LIB") {
         Some(path) => PathBuf::from(path),

@@ -34,6 +34,20 @@
 //! assert_eq!(translate(&odd, &host, &mut output), Err(Refusal::OddPc));
 //! # Ok::<(), Refusal>(())
 //! ```
+//!
+//! How a block is called, on an Arm processor or by [`a64_run`]: from word 0, with X30 the address to return to and X0 such
+//! that register n has its slot, eight little-endian bytes, at X0 plus the slot offset plus 8n, a multiple of 8. Slot 0 holds
+//! 0. It returns by RET with X0 the next guest PC and X1 the guest instructions done; the slots hold the registers. X9 to
+//! X17 and NZCV are lost; X2 to X8, X18 to X30, SP and all other memory are as they were.
+//!
+//! A block that a helper ends calls it by BLR X16, with SP, a multiple of 16, lowered by 16 bytes in which the caller's
+//! X30 is kept. The memory helper gets in X0 to X2 what the caller had in X1 to X3, in X3 the operation (0 to 6: LB, LH,
+//! LW, LD, LBU, LHU, LWU; 16 to 19: SB, SH, SW, SD), in X4 rd, in X5 the value to store or 0, in X6 the address, in X7 the
+//! instruction's PC; the others get in X0 to X4 what the caller had in X1 to X5, in X5 the instruction, in X6 its PC. A
+//! helper returns to X30 with X0 the next guest PC and X1 the instructions that it did, to which the block adds those before
+//! it; it leaves SP and the eight bytes at SP as it found them.
+//!
+//! [`translate`] takes 12 KB of stack, the others 1 KB.
 
 #![deny(unsafe_code)]
 #![warn(missing_docs)]
@@ -99,7 +113,7 @@ pub struct Placed {
 pub struct Rv64Run {
     /// The instructions done.
     pub count: u32,
-    /// The PC behind them.
+    /// The PC after them.
     pub next_pc: u64,
 }
 
