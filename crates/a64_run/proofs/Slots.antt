@@ -10,7 +10,7 @@ use lib.ListN.{length, getD, set, length-set}
 use lib.Seq.{getD-set-same, getD-set-other}
 use borrow.Author.Tests.{eqb-true, eqb-false}
 use Rattle.le.specs.Le.{load, store}
-use Rattle.le.specs.Laws.{load-same, load-other, store-below, store-above, length-store}
+use Rattle.le.proofs.Laws.{load-same, load-other, store-below, store-above, length-store}
 
 -- apart from each other, and inside len bytes
 pub record Apart (p : ℕ → ℕ) (len : ℕ) : Type 0 where

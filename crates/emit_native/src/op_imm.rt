@@ -69,7 +69,13 @@ fn emit_op_imm_32_right(em: InstrEmitter, imm: u64, imm12: u16, funct7: u32) -> 
     }
 }
 
-pub fn emit_op_imm_32_arm(em: InstrEmitter, imm: u64, imm12: u16, funct7: u32, funct3: u32) -> Emitted
+pub fn emit_op_imm_32_arm(
+    em: InstrEmitter,
+    imm: u64,
+    imm12: u16,
+    funct7: u32,
+    funct3: u32,
+) -> Emitted
     ensures { λ r. ⌜ ((slots : ℕ) → Emits slots (held em) (op-imm-32-arm imm imm12 funct7 funct3) r) ⌝ }
 {
     match funct3 {

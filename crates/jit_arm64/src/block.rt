@@ -50,13 +50,7 @@ fn emit_native(host: Host, pc: u64, instr: u32) -> Emitted
 }
 
 // The words of a helper's call, after those that the inline emitter left.
-fn emit_term_helper(
-    em: InstrEmitter,
-    host: Host,
-    pc: u64,
-    instr: u32,
-    emitted: u32,
-) -> Emitted
+fn emit_term_helper(em: InstrEmitter, host: Host, pc: u64, instr: u32, emitted: u32) -> Emitted
     requires { ⌜ (host .slots ≤ 32512) × Narrow instr × (emitted ≤ max-steps) × (held em ≡ C.words (host .slots) (emit-native host pc instr .calls)) ⌝ }
     ensures { λ r. ⌜ Compiled (host .slots) (emit-native host pc instr .calls ++ emit-term-helper host pc instr emitted .calls) (emit-term-helper host pc instr emitted .flow) r ⌝ }
 {

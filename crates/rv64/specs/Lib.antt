@@ -4,4 +4,3 @@ pub mod Compressed
 pub mod Execute
 pub mod Run
 pub mod Step
-pub mod Examples

@@ -11,9 +11,9 @@ use lib.Dec.{eqb, leb, ltb, T}
 use lib.Pow.{pow-pos}
 use borrow.Author.Tests.{leb-true, leb-false, eqb-true, lt-ltb, le-ltb}
 use Rattle.word.specs.Word.{wrap, sub, sign, sext, slt, sdiv, srem, signed, magnitude, asr}
-use Rattle.word.specs.Laws.{product-below}
+use Rattle.word.proofs.Laws.{product-below}
 use Rattle.a64_run.specs.Exec.{opValue, compared, holds, holds-even, difference}
-use Rattle.a64_run.specs.Flags.{difference-sub, z-law, c-law, n-law, lt-law}
+use Rattle.a64_run.proofs.Flags.{difference-sub, z-law, c-law, n-law, lt-law}
 use Rattle.rv64.specs.declared.alu.Alu.{Alu}
 use Rattle.rv64.specs.Alu.{value, quotient, remainder, quotientU, remainderU, overflows}
 use Rattle.emit_native.specs.Isa.{C-EQ, C-NE, C-CS, C-CC, C-MI, C-GE, C-LT, u64-MAX, i64-MIN, not-1}

@@ -11,8 +11,8 @@ use lib.ListN.{length, getD, set, drop, length-drop}
 use lib.Seq.{drop-drop}
 use borrow.Author.Tests.{eqb-true, eqb-false, ne-eqb, eq-eqb, leb-true, leb-false, lt-ltb, le-ltb}
 use Rattle.word.specs.Word.{wrap, add}
-use Rattle.le.specs.Le.{load}
-use Rattle.le.specs.Laws.{Bytes, load-lt, load-add}
+use Rattle.le.specs.Le.{Bytes, load}
+use Rattle.le.proofs.Laws.{load-lt, load-add}
 use Rattle.isa.specs.declared.decode.Decoded32.{Decoded32}
 use Rattle.rv64.specs.declared.decode.Instr.{Instr}
 use Rattle.rv64.specs.declared.execute.Flow.{Flow}

@@ -12,7 +12,7 @@ use lib.Pow.{pow-pos}
 use lib.ListN.{length, getD, set, length-set}
 use borrow.Author.Tests.{leb-true, leb-false, le-leb, eq-eqb, ne-eqb, eqb-true, eqb-false}
 use Rattle.word.specs.Word.{wrap, sext, sign, magnitude, signed, asr, sdiv, mulh, sext128, upper}
-use Rattle.word.specs.Laws.{product-below}
+use Rattle.word.proofs.Laws.{product-below}
 use Rattle.le.specs.Le as Le
 use Rattle.a64.specs.declared.Op.{Op}
 use Rattle.a64.specs.declared.Op.the-variants.{Add, Sub, And, Orr, Eor, Lslv, Lsrv, Asrv, Mul, Smulh, Umulh, Udiv, Sdiv}

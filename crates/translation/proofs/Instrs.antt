@@ -11,7 +11,7 @@ use lib.Seq.{getD-set-other}
 use borrow.Author.Tests.{eqb-true, eqb-false, ne-eqb}
 use Rattle.word.specs.Word.{wrap, add}
 use Rattle.a64_run.specs.Exec.{opValue, compared, holds, holds-even}
-use Rattle.a64_run.specs.Flags.{z-law, c-law, lt-law}
+use Rattle.a64_run.proofs.Flags.{z-law, c-law, lt-law}
 use Rattle.rv64.specs.declared.alu.Alu.{Alu}
 use Rattle.rv64.specs.declared.alu.Cond.{Cond}
 use Rattle.rv64.specs.declared.decode.Instr.{Instr}

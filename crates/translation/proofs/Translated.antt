@@ -8,7 +8,7 @@ use native.Mathlib.Omega.{arith}
 use lib.Dec.{eqb, ltb}
 use lib.ListN.{length, take, drop}
 use borrow.Author.Tests.{eqb-true, eqb-false, ltb-false}
-use Rattle.le.specs.Laws.{Bytes}
+use Rattle.le.specs.Le.{Bytes}
 use Rattle.a64.specs.Emitter.{bytes}
 use Rattle.emit_native.specs.declared.Host.{Host}
 use Rattle.jit_arm64.specs.declared.Answer.{Answer}

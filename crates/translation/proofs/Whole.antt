@@ -10,8 +10,8 @@ use lib.Dec.{eqb, leb, ltb, T}
 use lib.ListN.{length, getD, set, drop, length-append, length-map}
 use borrow.Author.Tests.{eqb-true, eqb-false, ne-eqb, leb-true, leb-false, le-leb, lt-leb, ltb-true, ltb-false}
 use Rattle.word.specs.Word.{wrap, add}
-use Rattle.le.specs.Le.{load, number}
-use Rattle.le.specs.Laws.{Bytes, load-lt}
+use Rattle.le.specs.Le.{Bytes, load, number}
+use Rattle.le.proofs.Laws.{load-lt}
 use Rattle.a64.specs.declared.Form.{Form}
 use Rattle.a64.specs.declared.Form.the-variants.{Ret}
 use Rattle.a64.specs.Forms.{encode, decode}

@@ -16,7 +16,7 @@ use Rattle.a64_run.specs.declared.run.End.{End}
 use Rattle.a64_run.specs.Exec.{State, machine, After, after, exec, Executed}
 use Rattle.a64_run.specs.Run.{words, Ran, ran, onward, run}
 
--- word i of a block, and the words behind it
+-- word i of a block, and the words after it
 pub words-at : (bs : List ℕ) (i : ℕ) → 4 * i + 4 ≤ length bs → drop i (words bs) ≡ load 4 bs (4 * i) ∷ drop (suc i) (words bs)
 unfolding words load number
 words-at (a ∷ b ∷ c ∷ d ∷ bs) zero h = refl

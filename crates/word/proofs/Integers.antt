@@ -11,7 +11,7 @@ use lib.Signed.{ltZ, quotZ, remZ, shrZ}
 use lib.Pow.{pow-pos, pow-mono, pow-add, shr-mono}
 use borrow.Author.Tests.{lt-ltb, le-ltb, ltb-true, ltb-false, le-leb, lt-leb}
 use Rattle.word.specs.Word.{wrap, sub, bias, sext, slt, asr, complement, sign, magnitude, signed, sdiv, srem, mulh, mulhsu}
-use Rattle.word.specs.Laws.{sext-low, sext-high, asr-positive, asr-negative, magnitude-positive, magnitude-negative, product-below, mulhsu-positive, mulhsu-negative, mulh-positive, mulh-negative}
+use Rattle.word.proofs.Laws.{sext-low, sext-high, asr-positive, asr-negative, magnitude-positive, magnitude-negative, product-below, mulhsu-positive, mulhsu-negative, mulh-positive, mulh-negative}
 
 -- the signed value of k bits (two's complement)
 unfoldable pub toℤ : ℕ → ℕ → ℤ
