@@ -68,22 +68,6 @@ encode Ret = 0xD65F03C0
 -- UDF #0, which is no form
 encode Unreadable = 0
 
--- each field fits its bits
-abbrev pub InRange : Form → Type 0
-InRange (DataProcessing op rd rn rm) = (rd < 32) × (rn < 32) × (rm < 32)
-InRange (Ldr rt rn imm) = (rt < 32) × (rn < 32) × (imm < 4096)
-InRange (Str rt rn imm) = (rt < 32) × (rn < 32) × (imm < 4096)
-InRange (Movz rd hw imm) = (rd < 32) × (hw < 4) × (imm < 65536)
-InRange (Movk rd hw imm) = (rd < 32) × (hw < 4) × (imm < 65536)
-InRange (Cmp rn rm) = (rn < 32) × (rm < 32)
-InRange (Csel rd rn rm c) = (rd < 32) × (rn < 32) × (rm < 32) × (c < 16)
-InRange (Sxtw rd rn) = (rd < 32) × (rn < 32)
-InRange (AddSp imm) = imm < 4096
-InRange (SubSp imm) = imm < 4096
-InRange (Blr rn) = rn < 32
-InRange Ret = Unit {0}
-InRange Unreadable = Unit {0}
-
 -- the fields of a word
 abbrev pub rd : ℕ → ℕ
 rd w = w % 32

@@ -8,7 +8,8 @@ use mathlib.Core.List.{List}
 use lib.ListN.{length, set, length-set}
 use borrow.Author.Tests.{eq-eqb, ne-eqb}
 use Rattle.word.specs.Word.{wrap}
-use Rattle.a64_run.specs.Exec.{State, reg, with-reg, address, reaches, insert, exec, next, after, machine, Within, Reached, Executed}
+use Rattle.a64_run.specs.Exec.{State, reg, with-reg, address, reaches, insert, exec, next, after, machine}
+use Rattle.a64_run.specs.Parts.{Within, Reached, Executed}
 use Rattle.a64.specs.declared.Form.{Form}
 use Rattle.a64_run.specs.declared.state.Flags.{Flags}
 use Rattle.a64_run.specs.declared.exec.Outcome.{Outcome}

@@ -13,7 +13,8 @@ use Rattle.a64_run.specs.declared.state.Flags.{Flags}
 use Rattle.a64_run.specs.declared.exec.Outcome.{Outcome}
 use Rattle.a64_run.specs.declared.exec.Stepped.{Stepped}
 use Rattle.a64_run.specs.declared.run.End.{End}
-use Rattle.a64_run.specs.Exec.{State, machine, After, after, exec, Executed}
+use Rattle.a64_run.specs.Exec.{State, machine, After, after, exec}
+use Rattle.a64_run.specs.Parts.{Executed}
 use Rattle.a64_run.specs.Run.{words, Ran, ran, onward, run}
 
 -- word i of a block, and the words after it

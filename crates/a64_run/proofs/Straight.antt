@@ -11,7 +11,8 @@ use lib.Seq.{getD-set-same, set-set}
 use borrow.Author.Tests.{eqb-true}
 use Rattle.a64.specs.declared.Form.{Form}
 use Rattle.a64.specs.declared.Form.the-variants.{Movz, Movk}
-use Rattle.a64.specs.Forms.{encode, decode, InRange}
+use Rattle.a64.specs.Forms.{encode, decode}
+use Rattle.a64.specs.Parts.{InRange}
 use Rattle.a64.specs.Emitter.{encoded, halfword, upper, constant}
 use Rattle.a64.proofs.Coding.{decode-encode}
 use Rattle.a64_run.specs.Exec.{State, reg, with-reg, insert, exec, next}

@@ -1,3 +1,4 @@
 pub mod Exec
 pub mod Run
 pub mod Nzcv
+pub mod Parts

@@ -9,10 +9,6 @@ use Rattle.emit_native.specs.Isa.{OPCODE-LUI, OPCODE-AUIPC, OPCODE-JAL, 
 use Rattle.emit_native.specs.Decode.{imm-i, imm-b, imm-u, imm-j}
 use Rattle.emit_native.specs.Calls.{add-x, sub-x, and-x, orr-x, eor-x, lslv-x, lsrv-x, asrv-x, mul-x, smulh-x, umulh-x, udiv-x, sdiv-x, cmp-x, csel-x, sxtw-x, Call, emit, mov-imm64, load, store, if-not-0, Emission, continue, terminate, none, behind, then-store-rd}
 
--- the registers of an instruction
-abbrev pub InRange : Decoded32 → Type 0
-InRange d = (d .rd < 32) × (d .rs1 < 32) × (d .rs2 < 32)
-
 unfoldable pub lui : ℕ → Decoded32 → Emission
 lui instr d = continue (if-not-0 (d .rd) (mov-imm64 11 (imm-u instr) ∷ store 11 (d .rd) ∷ []))
 

@@ -2,9 +2,9 @@
 ghost use mathlib.Core.Path.{_≡_};
 ghost use mathlib.Core.List.{[], _∷_};
 ghost use Prim.Native.Nat.{ℕ, _<_, _≤_};
-ghost use Rattle.a64.specs.Emitter.{held, emitted-all};
-ghost use Rattle.emit_native.specs.Calls.{Call, groups, Emits, add-x, mov-x, if-not-0, terminate};
-ghost use Rattle.emit_native.specs.Instr32.{InRange};
+ghost use Rattle.a64.specs.Parts.{held, emitted-all};
+ghost use Rattle.emit_native.specs.Calls.{Call, groups, add-x, mov-x, if-not-0, terminate};
+ghost use Rattle.emit_native.specs.Parts.{Emits, InRange};
 ghost use Rattle.emit_native.specs.TermHelper.{call-helper, call-exec, load-calls, store-calls, load-helper, store-helper, opcode-helper, memory-funct3, supports, emit-native-term-helper16, emit-native-term-helper32};
 use crate::Emitted;
 use crate::Host;

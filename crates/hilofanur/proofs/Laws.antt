@@ -8,7 +8,8 @@ use lib.ListN.{length, take, drop, getD, set, length-append}
 use lib.Seq.{drop-drop, take-at, drop-append-add, take-suc, take-suc-set, drop-length, length-take-le}
 use Rattle.le.specs.Le.{number, bytes, load, store}
 use Rattle.le.proofs.Laws.{length-bytes}
-use Rattle.hilofanur.specs.Bytes.{numbers, bytes-of, over}
+use Rattle.hilofanur.specs.Bytes.{numbers, bytes-of}
+use Rattle.hilofanur.specs.Parts.{over}
 
 -- ---- reading
 

@@ -16,7 +16,3 @@ unfoldable pub bytes-of : List ℕ → List ℕ
 unfolding bytes
 bytes-of [] = []
 bytes-of (v ∷ vs) = bytes 8 v ++ bytes-of vs
-
--- m with the bytes of the numbers vs over its front
-abbrev pub over : List ℕ → List ℕ → List ℕ
-over vs m = bytes-of vs ++ drop (8 * length vs) m

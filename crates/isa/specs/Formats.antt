@@ -30,32 +30,8 @@ rs2 w = inst 24 20 w
 abbrev pub funct7 : ℕ → ℕ
 funct7 w = inst 31 25 w
 
--- of the atomics
-abbrev pub funct5 : ℕ → ℕ
-funct5 w = inst 31 27 w
-
--- the I-type's immediate field, not extended
-abbrev pub imm12 : ℕ → ℕ
-imm12 w = inst 31 20 w
-
-abbrev pub decoded : ℕ → Decoded32
-decoded w =
-    record {
-      opcode = opcode w;
-      rd = rd w;
-      funct3 = funct3 w;
-      rs1 = rs1 w;
-      rs2 = rs2 w;
-      funct7 = funct7 w;
-      funct5 = funct5 w;
-      imm12 = imm12 w;
-    }
-
 abbrev pub immI : ℕ → ℕ
 immI w = sext 12 (inst 31 20 w)
-
-abbrev pub immS : ℕ → ℕ
-immS w = sext 12 (inst 31 25 w * 2 ^ 5 + inst 11 7 w)
 
 abbrev pub immB : ℕ → ℕ
 immB w = sext 13 (inst 31 31 w * 2 ^ 12 + inst 7 7 w * 2 ^ 11 + inst 30 25 w * 2 ^ 5 + inst 11 8 w * 2 ^ 1)

@@ -17,7 +17,7 @@ use Rattle.rv64.specs.declared.run.Refusal.{Refusal}
 use Rattle.rv64.specs.declared.run.Answer.{Answer}
 use Rattle.rv64.specs.Execute.{exec, covered}
 use Rattle.rv64.specs.Run.{fetch, run, step, onward, clamped, number, refusalFirst, refusalOf, answerOf, answer}
-use Rattle.rv64.specs.Step.{atFirst, refused}
+use Rattle.rv64.specs.Parts.{atFirst, refused}
 
 -- the count never falls
 

@@ -19,7 +19,7 @@ use Rattle.rv64.specs.Alu.{value, taken}
 use Rattle.rv64.specs.Decode as D
 use Rattle.rv64.specs.Compressed as C
 use Rattle.rv64.specs.Execute.{Step, exec, read, write}
-use Rattle.rv64.specs.Step as S
+use Rattle.rv64.specs.Parts as S
 use Rattle.rv64.proofs.Tables.{Missed, both, either}
 
 -- a step by its parts

@@ -7,7 +7,7 @@ ghost use Rattle.isa.specs.Formats as F;
 ghost use Rattle.word.specs.Word as W;
 ghost use Rattle.rv64.specs.Compressed as C;
 ghost use Rattle.rv64.specs.Execute as X;
-ghost use Rattle.rv64.specs.Step as S;
+ghost use Rattle.rv64.specs.Parts as S;
 use crate::alu::Alu;
 use crate::alu::sextw;
 use crate::decode::Instr;

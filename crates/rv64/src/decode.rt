@@ -5,7 +5,7 @@ ghost use Rattle.isa.specs.Formats as F;
 ghost use Rattle.word.specs.Word as W;
 ghost use Rattle.rv64.specs.Decode as D;
 ghost use Rattle.rv64.specs.Execute as X;
-ghost use Rattle.rv64.specs.Step as S;
+ghost use Rattle.rv64.specs.Parts as S;
 use crate::alu::Alu;
 use crate::alu::Cond;
 use crate::alu::bit;

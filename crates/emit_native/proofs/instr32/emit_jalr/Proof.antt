@@ -7,7 +7,7 @@ use Rattle.a64.proofs.Emission.{emitted-all-append}
 use Rattle.word.specs.Word.{add}
 use Rattle.emit_native.specs.Isa.{not-1}
 use Rattle.emit_native.specs.Decode.{imm-i}
-use Rattle.a64.specs.Emitter.{held}
+use Rattle.a64.specs.Parts.{held}
 use borrow.Author.Needs.{needs}
 use Rattle.emit_native.proofs.instr32.emit_jalr.Statement.{statement}
 use Rattle.emit_native.proofs.instr32.emit_jalr.Tie as tie

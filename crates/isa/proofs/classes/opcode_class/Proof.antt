@@ -7,7 +7,8 @@ use native.Mathlib.Omega.{arith}
 use native.Mathlib.Nat.{add-zero, zero-add, add-suc, suc-add, le-of-suc-le-suc, not-suc-le-zero}
 use lib.ListN.{length, getD}
 use Rattle.isa.specs.declared.classes.Class.{Class}
-use Rattle.isa.specs.Classes.{classOf, numbered}
+use Rattle.isa.specs.Classes.{classOf}
+use Rattle.isa.specs.Parts.{numbered}
 use Rattle.isa.proofs.classes.opcode_class.Statement.{statement}
 use Rattle.isa.proofs.classes.opcode_class.Tie as tie
 
