@@ -77,12 +77,6 @@ pub enum Instr {
     Uncovered,
 }
 
-// What a table of encodings has at a place.
-pub enum Entry {
-    Alu(Alu),
-    Reserved,
-}
-
 // funct7 and funct3, side by side.
 fn funct10(w: u32) -> u32
     ensures { λ r. ⌜ r ≡ D.funct10 w ⌝ }

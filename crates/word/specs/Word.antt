@@ -70,9 +70,6 @@ asr x s = cond (sign x) (complement (complement x / 2 ^ s)) (x / 2 ^ s)
 abbrev pub udiv : ℕ → ℕ → ℕ
 udiv x y = x / y
 
-abbrev pub urem : ℕ → ℕ → ℕ
-urem x y = x % y
-
 -- the signed value without its sign
 unfoldable pub magnitude : ℕ → ℕ
 magnitude x = cond (sign x) (2 ^ 64 - x) x
