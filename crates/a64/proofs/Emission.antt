@@ -7,7 +7,7 @@ use mathlib.Core.Path.{_≡_, refl, sym, ap, _∙_}
 use mathlib.Core.Bool.{Bool, true, false, cond}
 use mathlib.Core.List.{List, [], _∷_, _++_, append-assoc, append-nil, map, map-append, flatten}
 use lib.ListN.{length, take, drop, getD, set, length-append, length-take, length-drop, length-map}
-use lib.Seq.{take-nil, take-suc, take-suc-set, take-all, take-at, drop-append-add, drop-drop, length-take-le, sets, sets-eq, paste, take-paste}
+use lib.Seq.{take-nil, take-suc, take-suc-set, take-at, drop-append-add, drop-drop, length-take-le, sets, sets-eq, paste, take-paste}
 use lib.Dec.{leb, eqb}
 use borrow.Author.Tests.{le-leb, lt-leb, eq-eqb, ne-eqb}
 use Rattle.a64.specs.declared.Form.{Form}

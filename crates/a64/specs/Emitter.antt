@@ -1,12 +1,8 @@
 -- The forms of a constant, and words as bytes.
-use Prim.Native.Nat.{ℕ, _+_, _*_, _/_, _%_, _^_, _≤_}
-use mathlib.Core.Path.{_≡_}
-use mathlib.Core.Bool.{Bool, true, false, cond}
+use Prim.Native.Nat.{ℕ, _*_, _/_, _%_, _^_}
+use mathlib.Core.Bool.{cond}
 use mathlib.Core.List.{List, [], _∷_, _++_, map}
-use lib.ListN.{length, take, drop}
-use lib.Dec.{leb, eqb}
-use Rattle.a64.specs.declared.A64Emitter.{A64Emitter}
-use Rattle.a64.specs.declared.InstrEmitter.{InstrEmitter}
+use lib.Dec.{eqb}
 use Rattle.a64.specs.declared.Form.{Form}
 use Rattle.a64.specs.declared.Form.the-variants.{Movz, Movk}
 use Rattle.a64.specs.Forms.{encode}

@@ -1,7 +1,7 @@
 -- The words of the A64 forms, and the form of a word, from the Arm Architecture Reference Manual for A-profile (DDI 0487), C6.2. The manual's
 -- section stands beside each form. A field is a number at its lowest bit, and every other bit of a form is fixed.
-use Prim.Native.Nat.{ℕ, _+_, _*_, _/_, _%_, _^_, _<_}
-use mathlib.Core.Bool.{Bool, true, false, cond}
+use Prim.Native.Nat.{ℕ, _+_, _*_, _/_, _%_, _^_}
+use mathlib.Core.Bool.{Bool, cond}
 use mathlib.Core.List.{List, [], _∷_}
 use lib.Dec.{eqb}
 use Rattle.a64.specs.declared.Op.{Op}

@@ -1,9 +1,9 @@
 -- Where an access goes, from where its address lies; a form's effect, from what its parts return. Assumes nothing.
-use mathlib.Core.Path.{_≡_, refl, sym, ap, _∙_}
-use mathlib.Core.Bool.{Bool, true, false, cond, not, _&&_, _||_, and-true, and-false}
-use Prim.Native.Nat.{ℕ, _+_, _-_, _*_, _%_, _^_, _≤_, _<_}
+use mathlib.Core.Path.{_≡_, refl, sym, _∙_}
+use mathlib.Core.Bool.{true, not, _||_, and-true, and-false}
+use Prim.Native.Nat.{ℕ, _+_, _*_, _%_, _^_}
 use native.Mathlib.Nat.{zero-mod, zero-div, zero-mul, zero-add, add-zero}
-use lib.Dec.{leb, eqb}
+use lib.Dec.{eqb}
 use mathlib.Core.List.{List}
 use lib.ListN.{length, set, length-set}
 use borrow.Author.Tests.{eq-eqb, ne-eqb}

@@ -1,9 +1,8 @@
 -- What each A64 form does, from the Arm Architecture Reference Manual (DDI 0487): C6.2 for the forms, J1 for the shared
 -- pseudocode that they call. Definitions only.
-use mathlib.Core.Path.{_≡_}
-use mathlib.Core.Bool.{Bool, true, false, cond, not, xor, _&&_, _||_}
+use mathlib.Core.Bool.{Bool, true, cond, not, xor, _&&_, _||_}
 use mathlib.Core.List.{List}
-use Prim.Native.Nat.{ℕ, _+_, _-_, _*_, _/_, _%_, _^_, _≤_}
+use Prim.Native.Nat.{ℕ, _+_, _-_, _*_, _/_, _%_, _^_}
 use lib.Dec.{leb, eqb}
 use lib.ListN.{length, getD, set}
 use Rattle.word.specs.Word.{wrap, add, mul, and64, or64, xor64, complement, sign, sext, bias, shl, shr, asr, udiv, sdiv, mulh, mulhu}
@@ -14,9 +13,6 @@ use Rattle.a64.specs.declared.Form.{Form}
 use Rattle.a64.specs.declared.Form.the-variants.{DataProcessing, Ldr, Str, Movz, Movk, Cmp, Csel, Sxtw, AddSp, SubSp, Blr, Ret}
 use Rattle.a64_run.specs.declared.state.Flags.{Flags}
 use Rattle.a64_run.specs.declared.exec.Outcome.{Outcome}
-use Rattle.a64_run.specs.declared.exec.Access.{Access}
-use Rattle.a64_run.specs.declared.exec.Access.the-variants.{At, Fault}
-use Rattle.a64_run.specs.declared.exec.Stepped.{Stepped}
 
 -- ---- the state
 

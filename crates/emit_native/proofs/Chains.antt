@@ -1,7 +1,7 @@
 -- Emitters that call one another. Assumes nothing.
 use Prim.Native.Nat.{ℕ}
 use mathlib.Core.Path.{_≡_, _∙_}
-use mathlib.Core.List.{List, _++_, map-append}
+use mathlib.Core.List.{List, map-append}
 use Rattle.a64.specs.Parts.{held, emitted-all}
 use Rattle.a64.proofs.Emission.{emitted-all-append}
 use Rattle.emit_native.specs.declared.Emitted.{Emitted}

@@ -1,17 +1,14 @@
 -- Calls of the emitter, one for each line of the Rust, and the forms that each adds.
 use Prim.Native.Nat.{ℕ, _+_, _*_, _/_}
-use mathlib.Core.Path.{_≡_}
-use mathlib.Core.Bool.{Bool, true, false, cond, not}
+use mathlib.Core.Bool.{cond}
 use mathlib.Core.List.{List, [], _∷_, _++_, map, flatten}
 use lib.Dec.{eqb}
 use Rattle.a64.specs.declared.Op.the-variants.{Add, Sub, And, Orr, Eor, Lslv, Lsrv, Asrv, Mul, Smulh, Umulh, Udiv, Sdiv}
 use Rattle.a64.specs.declared.Form.{Form}
 use Rattle.a64.specs.declared.Form.the-variants.{DataProcessing, Ldr, Str, Cmp, Csel, Sxtw, AddSp, SubSp, Blr, Ret}
 use Rattle.a64.specs.Emitter.{constant, encoded}
-use Rattle.a64.specs.Parts.{held, emitted-all}
 use Rattle.emit_native.specs.declared.EmitFlow.{EmitFlow}
 use Rattle.emit_native.specs.declared.EmitFlow.the-variants.{Continue, Terminate, None}
-use Rattle.emit_native.specs.declared.Emitted.{Emitted}
 
 -- ---- the word writers of `A64Emitter`, with the fields in the Rust's order
 

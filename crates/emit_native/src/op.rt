@@ -6,7 +6,7 @@ ghost use Rattle.a64.specs.declared.Form.{Form};
 ghost use Rattle.a64.specs.Forms.{encode};
 ghost use Rattle.a64.specs.Parts.{held, emitted-all};
 ghost use Rattle.emit_native.specs.Isa.{F7-BASE, F7-SUB-SRA, F7-MULDIV, C-EQ, C-MI, u64-MAX, i64-MIN};
-ghost use Rattle.emit_native.specs.Calls.{Call, groups, sub-x, and-x, mul-x, sdiv-x, umulh-x, cmp-x, csel-x};
+ghost use Rattle.emit_native.specs.Calls.{Call, groups, sub-x, and-x, mul-x, umulh-x, cmp-x, csel-x};
 ghost use Rattle.emit_native.specs.Parts.{Emits};
 ghost use Rattle.emit_native.specs.Instr32.{op-arm};
 use crate::Emitted;

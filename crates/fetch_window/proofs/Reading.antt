@@ -9,7 +9,6 @@ use lib.ListN.{length}
 use borrow.Author.Tests.{leb-true, leb-false}
 use Rattle.word.specs.Word.{add}
 use Rattle.le.specs.Le.{load}
-use Rattle.fetch_window.specs.declared.Halfword.{Halfword}
 use Rattle.fetch_window.specs.declared.Halfword.the-variants.{Missing, Found}
 use Rattle.fetch_window.specs.Parts.{halfword-at, index}
 

@@ -1,8 +1,8 @@
 -- Numbers of eight bytes in a row, each the lowest byte first: registers and states as they cross the boundary.
 -- Definitions only.
 use mathlib.Core.List.{List, [], _∷_, _++_}
-use Prim.Native.Nat.{ℕ, zero, suc, _*_}
-use lib.ListN.{length, take, drop}
+use Prim.Native.Nat.{ℕ, zero, suc}
+use lib.ListN.{take, drop}
 use Rattle.le.specs.Le.{number, bytes}
 
 -- the first n numbers of m

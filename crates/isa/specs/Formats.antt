@@ -3,7 +3,6 @@
 -- down, where the manual's figure takes its bits from. Definitions only.
 use Prim.Native.Nat.{ℕ, suc, _+_, _-_, _*_, _/_, _%_, _^_}
 use Rattle.word.specs.Word.{sext}
-use Rattle.isa.specs.declared.decode.Decoded32.{Decoded32}
 
 -- inst[hi:lo]
 abbrev pub inst : ℕ → ℕ → ℕ → ℕ

@@ -1,8 +1,8 @@
 -- Translate by its parts: which refusal, and the answer. Assumes nothing.
-use Prim.Native.Nat.{ℕ, _+_, _*_, _%_, _≤_, _<_, min}
+use Prim.Native.Nat.{ℕ, _*_, _%_, _≤_, _<_}
 use native.Mathlib.Omega.{arith}
 use mathlib.Core.Path.{_≡_, refl, sym, ap, _∙_}
-use mathlib.Core.Bool.{Bool, true, false, cond, not, _||_}
+use mathlib.Core.Bool.{Bool, true, false, cond}
 use mathlib.Core.List.{List}
 use lib.Dec.{eqb, ltb}
 use lib.ListN.{length, take, length-take}
@@ -12,7 +12,6 @@ use Rattle.a64.specs.Emitter.{bytes}
 use Rattle.a64.specs.Parts.{max-words, block-words, written, Written}
 use Rattle.a64.proofs.Emission.{length-bytes}
 use Rattle.emit_native.specs.declared.Host.{Host}
-use Rattle.emit_native.specs.Calls.{words}
 use Rattle.emit_native.proofs.Size.{by}
 use Rattle.jit_arm64.specs.declared.block.NativeBlock.{NativeBlock}
 use Rattle.jit_arm64.specs.Block.{fetch, whole-walk}

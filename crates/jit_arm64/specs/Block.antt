@@ -1,23 +1,18 @@
 -- `compile_native_block`: the walk over the guest code, and the end of the block.
-use Prim.Native.Nat.{ℕ, zero, suc, _+_, _*_, _%_, _^_, _<_, min}
+use Prim.Native.Nat.{ℕ, zero, suc, _+_, _*_, _%_, _^_, min}
 use mathlib.Core.Bool.{Bool, cond}
 use mathlib.Core.List.{List, [], _∷_, _++_}
 use mathlib.Core.Option.{Option, none, some}
-use mathlib.Core.Path.{_≡_}
 use lib.ListN.{length}
-use lib.Dec.{eqb, leb, ltb}
+use lib.Dec.{eqb, leb}
 use Rattle.word.specs.Word.{add}
 use Rattle.le.specs.Le.{load}
-use Rattle.a64.specs.Parts.{held, block-words}
 use Rattle.emit_native.specs.declared.Host.{Host}
 use Rattle.emit_native.specs.declared.EmitFlow.{EmitFlow}
 use Rattle.emit_native.specs.declared.EmitFlow.the-variants.{Continue, Terminate, None}
-use Rattle.emit_native.specs.declared.Emitted.{Emitted}
-use Rattle.jit_arm64.specs.declared.fetch.Fetched.{Fetched}
 use Rattle.jit_arm64.specs.declared.block.Stop.{Stop}
 use Rattle.jit_arm64.specs.declared.block.Stop.the-variants.{Limit, Ended, Helper, Uncovered, NotFetched}
-use Rattle.jit_arm64.specs.declared.block.NativeBlock.{NativeBlock}
-use Rattle.emit_native.specs.Calls.{Call, emit, mov-imm64, ret, words, Emission}
+use Rattle.emit_native.specs.Calls.{Call, emit, mov-imm64, ret, Emission}
 use Rattle.emit_native.specs.Decode.{decode32}
 use Rattle.emit_native.specs.Instr16.{emit-native-instr16}
 use Rattle.emit_native.specs.Instr32.{emit-native-instr}

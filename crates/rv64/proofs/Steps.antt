@@ -9,7 +9,7 @@ use borrow.Author.Tests.{ne-eqb}
 use Rattle.isa.specs.declared.classes.Class.{Class}
 use Rattle.isa.specs.Classes.{classOf}
 use Rattle.word.specs.Word.{add}
-use Rattle.isa.specs.Formats.{inst, rd, rs1, rs2, funct3, immI, immB, highReg, lowReg}
+use Rattle.isa.specs.Formats.{inst, rd, rs1, rs2, funct3, immB, highReg, lowReg}
 use Rattle.rv64.specs.declared.alu.Alu.{Alu}
 use Rattle.rv64.specs.declared.alu.Cond.{Cond}
 use Rattle.rv64.specs.declared.decode.Instr.{Instr}

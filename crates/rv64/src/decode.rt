@@ -1,7 +1,5 @@
 // The 32-bit encodings, and what their instructions do.
 ghost use mathlib.Core.Path.{_≡_};
-ghost use Prim.Native.Nat.{_<_};
-ghost use Rattle.isa.specs.Formats as F;
 ghost use Rattle.word.specs.Word as W;
 ghost use Rattle.rv64.specs.Decode as D;
 ghost use Rattle.rv64.specs.Execute as X;

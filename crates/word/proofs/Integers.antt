@@ -5,7 +5,7 @@ use mathlib.Core.Path.{_≡_, refl, sym, ap, ap₂, _∙_}
 use Prim.Native.Nat.{ℕ, zero, suc, _+_, _-_, _*_, _/_, _%_, _^_, _≤_, _<_}
 use native.Mathlib.Omega.{arith}
 use native.Mathlib.Nat.{div-le-self, mod-le, le-trans, lt-of-le-of-lt, mul-le-mul-left, div-mul-le-self, div-one, mod-lt, mul-comm, le-of-lt, add-mul, mul-add, add-assoc, add-comm, add-left-comm, mod-add-mod}
-use lib.Dec.{ltb, leb}
+use lib.Dec.{ltb}
 use lib.IntN.{ℤ, pos, negsuc, negℤ, natAbs, _*ℤ_}
 use lib.Signed.{ltZ, quotZ, remZ, shrZ}
 use lib.Pow.{pow-pos, pow-mono, pow-add, shr-mono}

@@ -1,6 +1,5 @@
 use borrow.Author.Needs.{needs}
 use native.Mathlib.Omega.{arith}
-use mathlib.Core.Path.{_∙_, ap, sym}
 use Rattle.le.specs.Le.{Bytes}
 use Rattle.jit_arm64.specs.Translate.{host}
 use Rattle.translation.proofs.Translated.{translated}

@@ -1,5 +1,4 @@
 use native.Mathlib.Omega.{arith}
-use mathlib.Core.Path.{refl}
 use Rattle.rv64.proofs.Steps as T
 use Rattle.rv64.specs.Parts as S
 use Rattle.rv64.specs.Execute as X
