@@ -7,14 +7,15 @@ use mathlib.Core.Path.{_≡_, refl, sym, ap, _∙_}
 use mathlib.Core.Bool.{Bool, true, false, cond}
 use mathlib.Core.List.{List, [], _∷_, _++_, append-assoc, append-nil, map, map-append, flatten}
 use lib.ListN.{length, take, drop, getD, set, length-append, length-take, length-drop, length-map}
-use lib.Seq.{take-nil, take-suc, take-suc-set, take-all, take-at, drop-append-add, drop-drop, length-take-le, sets, sets-eq, paste, take-paste}
+use lib.Seq.{take-nil, take-suc, take-suc-set, take-at, drop-append-add, drop-drop, length-take-le, sets, sets-eq, paste, take-paste}
 use lib.Dec.{leb, eqb}
 use borrow.Author.Tests.{le-leb, lt-leb, eq-eqb, ne-eqb}
 use Rattle.a64.specs.declared.Form.{Form}
 use Rattle.a64.specs.declared.Form.the-variants.{Movz, Movk}
-use Rattle.a64.specs.Forms.{encode, InRange, decode}
+use Rattle.a64.specs.Forms.{encode, decode}
+use Rattle.a64.specs.Parts.{InRange, max-words, instr-words, emitted-in, emitted, emitted-all, written, Written}
 use Rattle.a64.proofs.Coding.{decode-encode}
-use Rattle.a64.specs.Emitter.{max-words, instr-words, emitted-in, emitted, encoded, emitted-all, halfword, upper, constant, written, Written, bytes, word-bytes}
+use Rattle.a64.specs.Emitter.{encoded, halfword, upper, constant, bytes, word-bytes}
 
 -- words that fit are added
 pub emitted-fits : (m : ℕ) (h ws : List ℕ) → length h + length ws ≤ m → emitted-in m h ws ≡ h ++ ws

@@ -1,50 +1,14 @@
--- The words that an emitter holds, an instruction's and a block's, and what the calls that add words leave.
-use Prim.Native.Nat.{ℕ, _+_, _*_, _/_, _%_, _^_, _≤_}
-use mathlib.Core.Path.{_≡_}
-use mathlib.Core.Bool.{Bool, true, false, cond}
+-- The forms of a constant, and words as bytes.
+use Prim.Native.Nat.{ℕ, _*_, _/_, _%_, _^_}
+use mathlib.Core.Bool.{cond}
 use mathlib.Core.List.{List, [], _∷_, _++_, map}
-use lib.ListN.{length, take, drop}
-use lib.Dec.{leb, eqb}
-use Rattle.a64.specs.declared.A64Emitter.{A64Emitter}
-use Rattle.a64.specs.declared.InstrEmitter.{InstrEmitter}
+use lib.Dec.{eqb}
 use Rattle.a64.specs.declared.Form.{Form}
 use Rattle.a64.specs.declared.Form.the-variants.{Movz, Movk}
 use Rattle.a64.specs.Forms.{encode}
 
--- the most words of a block: 29 for each of 64 instructions, and 6 for its end (document 01)
-abbrev pub max-words : ℕ
-max-words = 1862
-
--- the most words of an instruction, or of the end of a block: 29 inline, and 30 of a helper's call
-abbrev pub instr-words : ℕ
-instr-words = 30
-
-unfoldable pub held : InstrEmitter → List ℕ
-held e = take (e .len) (e .words)
-
-unfoldable pub block-words : A64Emitter → List ℕ
-block-words e = take (e .len) (e .words)
-
--- the words h, of which there is room for m, after a call that adds ws: with all of ws, or unchanged where they do not fit
-unfoldable pub emitted-in : ℕ → List ℕ → List ℕ → List ℕ
-emitted-in m h ws = cond (leb (length h + length ws) m) (h ++ ws) h
-
--- the same of an instruction's emitter
-abbrev pub emitted : List ℕ → List ℕ → List ℕ
-emitted h ws = emitted-in instr-words h ws
-
--- a word, where the test holds
-unfoldable pub emitted-if : Bool → ℕ → List ℕ
-emitted-if true w = w ∷ []
-emitted-if false w = []
-
 abbrev pub encoded : List Form → List ℕ
 encoded fs = map encode fs
-
--- the words h after several calls, each of which adds a group of forms
-abbrev pub emitted-all : List ℕ → List (List Form) → List ℕ
-emitted-all h [] = h
-emitted-all h (g ∷ gs) = emitted-all (emitted h (encoded g)) gs
 
 -- halfword hw of a number
 abbrev pub halfword : ℕ → ℕ → ℕ
@@ -58,12 +22,6 @@ upper rd hw p = cond (eqb p 0) [] (Movk rd hw p ∷ [])
 unfoldable pub constant : ℕ → ℕ → List Form
 constant rd v = Movz rd 0 (v % 65536) ∷ (upper rd 1 (halfword 1 v) ++ (upper rd 2 (halfword 2 v) ++ upper rd 3 (halfword 3 v)))
 
--- what a call leaves of an array l of m words whose first n are held: the first r of l′ are held, and they are those with ws added
-pub record Added (m : ℕ) (l : List ℕ) (n : ℕ) (l′ : List ℕ) (r : ℕ) (ws : List ℕ) : Type 0 where
-  pub long : length l′ ≡ m
-  pub holds : take r l′ ≡ emitted-in m (take n l) ws
-  pub room : (n ≤ m → r ≤ m)
-
 -- words as bytes, lowest first
 abbrev pub word-bytes : ℕ → List ℕ
 word-bytes w = w % 256 ∷ w / 2 ^ 8 % 256 ∷ w / 2 ^ 16 % 256 ∷ w / 2 ^ 24 % 256 ∷ []
@@ -71,12 +29,3 @@ word-bytes w = w % 256 ∷ w / 2 ^ 8 % 256 ∷ w / 2 ^ 16 % 256 ∷ w / 2 ^ 24 %
 abbrev pub bytes : List ℕ → List ℕ
 bytes [] = []
 bytes (w ∷ ws) = word-bytes w ++ bytes ws
-
--- d with the words ws as bytes at its front and the rest unchanged, where they fit
-unfoldable pub written : List ℕ → List ℕ → List ℕ
-written ws d = cond (leb (length (bytes ws)) (length d)) (bytes ws ++ drop (length (bytes ws)) d) d
-
--- the words ws written to d, which is then d′: r bytes are theirs
-pub record Written (ws d : List ℕ) (r : ℕ) (d′ : List ℕ) : Type 0 where
-  pub count : r ≡ length (bytes ws)
-  pub content : d′ ≡ written ws d

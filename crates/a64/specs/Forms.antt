@@ -1,7 +1,7 @@
 -- The words of the A64 forms, and the form of a word, from the Arm Architecture Reference Manual for A-profile (DDI 0487), C6.2. The manual's
 -- section stands beside each form. A field is a number at its lowest bit, and every other bit of a form is fixed.
-use Prim.Native.Nat.{ℕ, _+_, _*_, _/_, _%_, _^_, _<_}
-use mathlib.Core.Bool.{Bool, true, false, cond}
+use Prim.Native.Nat.{ℕ, _+_, _*_, _/_, _%_, _^_}
+use mathlib.Core.Bool.{Bool, cond}
 use mathlib.Core.List.{List, [], _∷_}
 use lib.Dec.{eqb}
 use Rattle.a64.specs.declared.Op.{Op}
@@ -67,22 +67,6 @@ encode (Blr rn) = 0xD63F0000 + rn * 2 ^ 5
 encode Ret = 0xD65F03C0
 -- UDF #0, which is no form
 encode Unreadable = 0
-
--- each field fits its bits
-abbrev pub InRange : Form → Type 0
-InRange (DataProcessing op rd rn rm) = (rd < 32) × (rn < 32) × (rm < 32)
-InRange (Ldr rt rn imm) = (rt < 32) × (rn < 32) × (imm < 4096)
-InRange (Str rt rn imm) = (rt < 32) × (rn < 32) × (imm < 4096)
-InRange (Movz rd hw imm) = (rd < 32) × (hw < 4) × (imm < 65536)
-InRange (Movk rd hw imm) = (rd < 32) × (hw < 4) × (imm < 65536)
-InRange (Cmp rn rm) = (rn < 32) × (rm < 32)
-InRange (Csel rd rn rm c) = (rd < 32) × (rn < 32) × (rm < 32) × (c < 16)
-InRange (Sxtw rd rn) = (rd < 32) × (rn < 32)
-InRange (AddSp imm) = imm < 4096
-InRange (SubSp imm) = imm < 4096
-InRange (Blr rn) = rn < 32
-InRange Ret = Unit {0}
-InRange Unreadable = Unit {0}
 
 -- the fields of a word
 abbrev pub rd : ℕ → ℕ

@@ -1,2 +1,3 @@
 pub mod Emitter
 pub mod Forms
+pub mod Parts

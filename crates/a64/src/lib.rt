@@ -1,10 +1,11 @@
 // The A64 forms that `A64Emitter` and the literal RET produce, their words, and the emitter.
 ghost use mathlib.Core.Path.{_≡_};
-ghost use Prim.Native.Nat.{ℕ, _+_, _*_, _/_, _%_, _<_, _≤_, min};
+ghost use Prim.Native.Nat.{ℕ, _+_, _/_, _<_, _≤_, min};
 ghost use mathlib.Core.List.{[], _∷_};
 ghost use lib.ListN.{length, take};
 ghost use lib.Seq.{sets};
-ghost use Rattle.a64.specs.Emitter.{max-words, instr-words, held, block-words, emitted-in, emitted, emitted-if, encoded, upper, constant, Added, Written, word-bytes};
+ghost use Rattle.a64.specs.Emitter.{encoded, upper, constant, word-bytes};
+ghost use Rattle.a64.specs.Parts.{max-words, instr-words, held, block-words, emitted-in, emitted, emitted-if, Added, Written};
 ghost use Rattle.a64.specs.Forms.{encode, decode, decode-op, decode-register, form-if, ops};
 
 // The most words of a block.

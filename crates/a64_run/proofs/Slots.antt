@@ -1,5 +1,5 @@
 -- The 32 slots of the guest registers in memory, each on its own: p n is the place of slot n. Assumes nothing.
-use mathlib.Core.Path.{_≡_, refl, sym, ap, _∙_}
+use mathlib.Core.Path.{_≡_, refl, sym, _∙_}
 use mathlib.Core.Bool.{Bool, true, false}
 use mathlib.Core.Logic.{_⊎_, inl, inr}
 use mathlib.Core.List.{List}
@@ -10,7 +10,7 @@ use lib.ListN.{length, getD, set, length-set}
 use lib.Seq.{getD-set-same, getD-set-other}
 use borrow.Author.Tests.{eqb-true, eqb-false}
 use Rattle.le.specs.Le.{load, store}
-use Rattle.le.specs.Laws.{load-same, load-other, store-below, store-above, length-store}
+use Rattle.le.proofs.Laws.{load-same, load-other, store-below, store-above, length-store}
 
 -- apart from each other, and inside len bytes
 pub record Apart (p : ℕ → ℕ) (len : ℕ) : Type 0 where

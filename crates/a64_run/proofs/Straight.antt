@@ -1,17 +1,18 @@
 -- Straight runs: lists of forms each of which goes on to the next word. Assumes nothing.
-use mathlib.Core.Path.{_≡_, refl, sym, ap, _∙_}
+use mathlib.Core.Path.{_≡_, refl, ap, _∙_}
 use mathlib.Core.Bool.{Bool, true, false, cond}
 use mathlib.Core.List.{List, [], _∷_, _++_}
-use Prim.Native.Nat.{ℕ, zero, suc, _+_, _*_, _/_, _%_, _^_, _≤_, _<_}
+use Prim.Native.Nat.{ℕ, suc, _+_, _*_, _%_, _^_, _<_}
 use native.Mathlib.Nat.{zero-add, mul-one}
 use native.Mathlib.Omega.{arith}
 use lib.Dec.{eqb}
-use lib.ListN.{length, getD, set}
+use lib.ListN.{length}
 use lib.Seq.{getD-set-same, set-set}
 use borrow.Author.Tests.{eqb-true}
 use Rattle.a64.specs.declared.Form.{Form}
-use Rattle.a64.specs.declared.Form.the-variants.{Movz, Movk}
-use Rattle.a64.specs.Forms.{encode, decode, InRange}
+use Rattle.a64.specs.declared.Form.the-variants.{Movk}
+use Rattle.a64.specs.Forms.{encode}
+use Rattle.a64.specs.Parts.{InRange}
 use Rattle.a64.specs.Emitter.{encoded, halfword, upper, constant}
 use Rattle.a64.proofs.Coding.{decode-encode}
 use Rattle.a64_run.specs.Exec.{State, reg, with-reg, insert, exec, next}

@@ -1,9 +1,8 @@
 -- What each A64 form does, from the Arm Architecture Reference Manual (DDI 0487): C6.2 for the forms, J1 for the shared
 -- pseudocode that they call. Definitions only.
-use mathlib.Core.Path.{_≡_}
-use mathlib.Core.Bool.{Bool, true, false, cond, not, xor, _&&_, _||_}
+use mathlib.Core.Bool.{Bool, true, cond, not, xor, _&&_, _||_}
 use mathlib.Core.List.{List}
-use Prim.Native.Nat.{ℕ, _+_, _-_, _*_, _/_, _%_, _^_, _≤_}
+use Prim.Native.Nat.{ℕ, _+_, _-_, _*_, _/_, _%_, _^_}
 use lib.Dec.{leb, eqb}
 use lib.ListN.{length, getD, set}
 use Rattle.word.specs.Word.{wrap, add, mul, and64, or64, xor64, complement, sign, sext, bias, shl, shr, asr, udiv, sdiv, mulh, mulhu}
@@ -14,9 +13,6 @@ use Rattle.a64.specs.declared.Form.{Form}
 use Rattle.a64.specs.declared.Form.the-variants.{DataProcessing, Ldr, Str, Movz, Movk, Cmp, Csel, Sxtw, AddSp, SubSp, Blr, Ret}
 use Rattle.a64_run.specs.declared.state.Flags.{Flags}
 use Rattle.a64_run.specs.declared.exec.Outcome.{Outcome}
-use Rattle.a64_run.specs.declared.exec.Access.{Access}
-use Rattle.a64_run.specs.declared.exec.Access.the-variants.{At, Fault}
-use Rattle.a64_run.specs.declared.exec.Stepped.{Stepped}
 
 -- ---- the state
 
@@ -27,6 +23,9 @@ pub record State : Type 0 where
   pub flags : Flags
   pub base : ℕ
   pub mem : List ℕ
+
+abbrev pub machine : List ℕ → ℕ → Flags → ℕ → List ℕ → State
+machine x sp flags base mem = record { x = x; sp = sp; flags = flags; base = base; mem = mem }
 
 -- a register as an operand. Place 31 is past the end of the list: it reads as 0, and what is written there is lost
 abbrev pub reg : State → ℕ → ℕ
@@ -147,25 +146,3 @@ exec (SubSp imm) s = next (with-sp s (difference (s .sp) imm))
 exec (Blr rn) s = after Outcome.Call s
 exec Ret s = after Outcome.Return s
 exec Form.Unreadable s = after Outcome.Unreadable s
-
--- ---- what the functions promise
-
-abbrev pub machine : List ℕ → ℕ → Flags → ℕ → List ℕ → State
-machine x sp flags base mem = record { x = x; sp = sp; flags = flags; base = base; mem = mem }
-
--- a lies within len bytes from base on, at i
-abbrev pub Within : ℕ → ℕ → ℕ → Access → Type 0
-Within a base len (At i) =
-    (leb base a ≡ true) × (leb (a + 8) (base + len) ≡ true) × (eqb (a % 8) 0 ≡ true) × (i ≡ a - base) × (i + 8 ≤ len)
-Within a base len Fault = (leb base a && leb (a + 8) (base + len)) && eqb (a % 8) 0 ≡ false
-
--- an access through register n
-abbrev pub Reached : State → ℕ → ℕ → Access → Type 0
-Reached s n imm (At i) = (reaches s n (address s n imm) ≡ true) × (i ≡ address s n imm - s .base) × (i + 8 ≤ length (s .mem))
-Reached s n imm Fault = reaches s n (address s n imm) ≡ false
-
--- the form's effect, and the sizes of the lists
-pub record Executed (f : Form) (s : State) (r : Stepped) (x : List ℕ) (m : List ℕ) : Type 0 where
-  pub goes : exec f s ≡ after (r .outcome) (machine x (r .sp) (r .flags) (s .base) m)
-  pub registers : length x ≡ 31
-  pub size : length m ≡ length (s .mem)

@@ -1,5 +1,4 @@
 pub mod Exec
-pub mod Flags
 pub mod Run
-pub mod RunLaws
 pub mod Nzcv
+pub mod Parts

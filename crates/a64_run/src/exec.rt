@@ -1,10 +1,11 @@
 // What each form does.
 ghost use mathlib.Core.Bool.{cond};
 ghost use mathlib.Core.Path.{_≡_};
-ghost use Prim.Native.Nat.{_+_, _/_, _<_, _≤_};
+ghost use Prim.Native.Nat.{_/_, _<_};
 ghost use lib.ListN.{length, getD, set};
-ghost use Rattle.a64_run.specs.Exec.{opValue, compared, holds-even, holds, insert, machine, Within, Reached, Executed};
-ghost use Rattle.a64.specs.Forms.{InRange};
+ghost use Rattle.a64_run.specs.Exec.{opValue, compared, holds-even, holds, insert, machine};
+ghost use Rattle.a64_run.specs.Parts.{Within, Reached, Executed};
+ghost use Rattle.a64.specs.Parts.{InRange};
 ghost use Rattle.a64_run.specs.declared.state.Flags as F;
 ghost use Rattle.a64_run.specs.declared.exec.Outcome as O;
 use crate::state::Flags;

@@ -1,11 +1,12 @@
 -- Emitters that call one another. Assumes nothing.
 use Prim.Native.Nat.{ℕ}
 use mathlib.Core.Path.{_≡_, _∙_}
-use mathlib.Core.List.{List, _++_, map-append}
-use Rattle.a64.specs.Emitter.{held, emitted-all}
+use mathlib.Core.List.{List, map-append}
+use Rattle.a64.specs.Parts.{held, emitted-all}
 use Rattle.a64.proofs.Emission.{emitted-all-append}
 use Rattle.emit_native.specs.declared.Emitted.{Emitted}
-use Rattle.emit_native.specs.Calls.{Call, groups, Emission, Emits, behind, store-rd, then-store-rd}
+use Rattle.emit_native.specs.Calls.{Call, groups, Emission, behind, store-rd, then-store-rd}
+use Rattle.emit_native.specs.Parts.{Emits}
 
 -- calls behind those of a match
 pub then : (slots rd : ℕ) (h : List ℕ) (e : Emission) (out r : Emitted) → Emits slots h e out

@@ -5,7 +5,8 @@ use lib.Pow.{mod-pow-add, shr-shr}
 use mathlib.Core.Path.{_≡_, refl, ap, _∙_}
 use Rattle.word.specs.Word.{sext}
 use Rattle.word.proofs.Extend.{by-shifts}
-use Rattle.isa.specs.Formats.{immI, immS, immB, immU, immJ, immCIW, immCI, immCI16, immCJ, immCB, shamtC, decoded, inst}
+use Rattle.isa.specs.Formats.{immI, immB, immU, immJ, immCIW, immCI, immCI16, immCJ, immCB, shamtC, inst}
+use Rattle.isa.specs.Parts.{immS, decoded}
 use Rattle.emit_native.specs.Decode.{sign-extend, imm-i, imm-s, imm-b, imm-u, imm-j, imm-ci, shamt, imm-addi4spn, imm-addi16sp, imm-cj, imm-cb, decode32, bit}
 
 pub sign-extends : (val bits : ℕ) → 1 ≤ bits → bits ≤ 64 → sign-extend val bits ≡ sext bits val

@@ -1,6 +1,6 @@
 -- The match on the opcode is the match on its class. Assumes nothing.
 use Prim.Native.Nat.{ℕ, _%_}
-use mathlib.Core.Path.{_≡_, refl, sym, ap, _∙_}
+use mathlib.Core.Path.{_≡_, refl}
 use mathlib.Core.Bool.{Bool, true, false, cond}
 use mathlib.Core.List.{[]}
 use native.Mathlib.Omega.{arith}
@@ -12,7 +12,8 @@ use Rattle.isa.specs.declared.decode.Decoded32.{Decoded32}
 use Rattle.isa.specs.Classes.{classOf}
 use Rattle.emit_native.specs.Calls.{Emission, none}
 use Rattle.emit_native.specs.Decode.{decode32}
-use Rattle.emit_native.specs.Instr32.{lui, auipc, jal, jalr, branch, op-imm, op-imm-32, op-32, op, misc-mem, emit-native-instr, InRange}
+use Rattle.emit_native.specs.Instr32.{lui, auipc, jal, jalr, branch, op-imm, op-imm-32, op-32, op, misc-mem, emit-native-instr}
+use Rattle.emit_native.specs.Parts.{InRange}
 
 abbrev pub by-class : ℕ → ℕ → Decoded32 → Class → Emission
 by-class pc instr d Load = none []

@@ -1,27 +1,22 @@
 -- How many words: at most 29 for an instruction, 33 for a helper's call, 9 for the end of a block. Assumes nothing.
-use Prim.Native.Nat.{ℕ, _+_, _*_, _/_, _%_, _^_, _≤_, _<_}
-use native.Mathlib.Nat.{div-eq-of-lt}
+use Prim.Native.Nat.{ℕ, _+_, _/_, _%_, _^_, _≤_}
 use native.Mathlib.Omega.{arith}
-use mathlib.Core.Path.{_≡_, refl, sym, ap, _∙_}
+use mathlib.Core.Path.{_≡_, refl}
 use mathlib.Core.Bool.{Bool, true, false, cond, _&&_, _||_}
-use mathlib.Core.List.{List, [], _∷_, _++_, map-append, flatten}
-use lib.Dec.{eqb, leb}
+use mathlib.Core.List.{List, [], _∷_, _++_, flatten}
+use lib.Dec.{eqb}
 use lib.ListN.{length, length-append}
-use borrow.Author.Tests.{eq-eqb, leb-true}
-use Rattle.a64.specs.declared.Form.{Form}
-use Rattle.a64.specs.Emitter.{constant, upper, halfword}
-use Rattle.a64.proofs.Emission.{constant-most, constant-length, upper-none}
+use Rattle.a64.specs.Emitter.{constant, upper}
+use Rattle.a64.proofs.Emission.{constant-most}
 use Rattle.isa.specs.declared.decode.Decoded32.{Decoded32}
 use Rattle.emit_native.specs.declared.EmitFlow.{EmitFlow}
 use Rattle.emit_native.specs.declared.EmitFlow.the-variants.{Continue, Terminate, None}
-use Rattle.emit_native.specs.declared.Host.{Host}
-use Rattle.emit_native.specs.Calls.{Call, emit, mov-imm64, load, store, forms, groups, if-not-0, store-rd, Emission, none, behind, then-store-rd, add-x, and-x}
+use Rattle.emit_native.specs.Calls.{Call, emit, mov-imm64, load, store, forms, groups, if-not-0, store-rd, Emission, behind, then-store-rd, add-x, and-x}
 use Rattle.emit_native.specs.Isa.{OPCODE-LUI, OPCODE-AUIPC, OPCODE-JAL, OPCODE-JALR, OPCODE-BRANCH, OPCODE-OP-IMM, OPCODE-OP, OPCODE-OP-IMM-32, OPCODE-OP-32, OPCODE-MISC-MEM, F3-FENCE, F3-FENCE-I, not-1, F3-ADD-SUB, F3-SLL, F3-SLT, F3-SLTU, F3-XOR, F3-SRL-SRA, F3-OR, F3-AND, F3-BEQ, F3-BNE, F3-BLT, F3-BGE, F3-BLTU, F3-BGEU, F7-BASE, F7-SUB-SRA, F7-MULDIV}
-use Rattle.emit_native.specs.Decode.{decode32, imm-i, imm-u, imm-j, imm-ci, c-funct3, c-op, c-rd, c-rs2, rs1-prime, rs2-prime, imm-addi4spn, imm-addi16sp}
+use Rattle.emit_native.specs.Decode.{imm-i, imm-u, imm-j, imm-ci, c-funct3, c-op, c-rd, c-rs2, rs1-prime, rs2-prime, imm-addi4spn, imm-addi16sp}
 use Rattle.word.specs.Word.{add}
 use Rattle.emit_native.specs.Instr16 as I
 use Rattle.emit_native.specs.Instr32 as J
-use Rattle.emit_native.specs.TermHelper as H
 
 abbrev pub size : ℕ → List Call → ℕ
 size slots cs = length (flatten (groups slots cs))

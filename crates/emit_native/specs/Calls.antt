@@ -1,16 +1,14 @@
 -- Calls of the emitter, one for each line of the Rust, and the forms that each adds.
 use Prim.Native.Nat.{ℕ, _+_, _*_, _/_}
-use mathlib.Core.Path.{_≡_}
-use mathlib.Core.Bool.{Bool, true, false, cond, not}
+use mathlib.Core.Bool.{cond}
 use mathlib.Core.List.{List, [], _∷_, _++_, map, flatten}
 use lib.Dec.{eqb}
 use Rattle.a64.specs.declared.Op.the-variants.{Add, Sub, And, Orr, Eor, Lslv, Lsrv, Asrv, Mul, Smulh, Umulh, Udiv, Sdiv}
 use Rattle.a64.specs.declared.Form.{Form}
 use Rattle.a64.specs.declared.Form.the-variants.{DataProcessing, Ldr, Str, Cmp, Csel, Sxtw, AddSp, SubSp, Blr, Ret}
-use Rattle.a64.specs.Emitter.{constant, held, encoded, emitted-all}
+use Rattle.a64.specs.Emitter.{constant, encoded}
 use Rattle.emit_native.specs.declared.EmitFlow.{EmitFlow}
 use Rattle.emit_native.specs.declared.EmitFlow.the-variants.{Continue, Terminate, None}
-use Rattle.emit_native.specs.declared.Emitted.{Emitted}
 
 -- ---- the word writers of `A64Emitter`, with the fields in the Rust's order
 
@@ -135,12 +133,6 @@ none cs = record { calls = cs; flow = None }
 abbrev pub behind : List Call → Emission → Emission
 behind cs e = record { calls = cs ++ e .calls; flow = e .flow }
 
--- whether `store_rd` writes a word: a `return None` passes it by, and register 0 has none
-unfoldable pub stores : EmitFlow → ℕ → Bool
-stores Continue rd = not (eqb rd 0)
-stores Terminate rd = false
-stores None rd = false
-
 -- `store_rd(em, rd)` behind a match, which a `return None` passes by
 unfoldable pub store-rd : EmitFlow → ℕ → List Call
 store-rd Continue rd = if-not-0 rd (store 11 rd ∷ [])
@@ -149,8 +141,3 @@ store-rd None rd = []
 
 abbrev pub then-store-rd : ℕ → Emission → Emission
 then-store-rd rd e = record { calls = e .calls ++ store-rd (e .flow) rd; flow = e .flow }
-
--- an emitter that held the words h answers r: the calls' words behind h, and the flow
-pub record Emits (slot-offset : ℕ) (h : List ℕ) (e : Emission) (r : Emitted) : Type 0 where
-  pub words : held (r .em) ≡ emitted-all h (groups slot-offset (e .calls))
-  pub flow : r .flow ≡ e .flow

@@ -4,3 +4,4 @@ pub mod Calls
 pub mod Instr16
 pub mod Instr32
 pub mod TermHelper
+pub mod Parts

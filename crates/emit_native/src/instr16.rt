@@ -1,10 +1,9 @@
 // `emit_native_instr16`.
 ghost use mathlib.Core.Path.{_≡_};
 ghost use Prim.Native.Nat.{_<_, _≤_, _+_, _/_, _%_};
-ghost use Rattle.a64.specs.Emitter.{held};
-ghost use Rattle.emit_native.specs.Calls.{Emits};
+ghost use Rattle.a64.specs.Parts.{held};
+ghost use Rattle.emit_native.specs.Parts.{Emits};
 ghost use Rattle.emit_native.specs.Instr16.{addi4spn, quadrant-0, c-addi, c-addiw, c-li, c-addi16sp, c-lui, c-srli, c-srai, c-andi, c-alu, c-group, c-j, c-condition, c-branch, c-addi16sp-lui, quadrant-1, c-slli, c-jr, c-mv, c-jalr, c-add, c-jump-move-add, quadrant-2, emit-native-instr16};
-use crate::EmitFlow;
 use crate::Emitted;
 use crate::Host;
 use crate::calls::go_on;

@@ -1,10 +1,10 @@
 // `emit_native_instr`.
 ghost use mathlib.Core.Path.{_≡_};
 ghost use Prim.Native.Nat.{_<_, _≤_};
-ghost use Rattle.a64.specs.Emitter.{held};
-ghost use Rattle.emit_native.specs.Calls.{Emits};
+ghost use Rattle.a64.specs.Parts.{held};
+ghost use Rattle.emit_native.specs.Parts.{Emits, InRange};
 ghost use Rattle.emit_native.specs.Decode.{decode32};
-ghost use Rattle.emit_native.specs.Instr32.{InRange, lui, auipc, jal, jalr, branch-on, branch, op-imm, op-imm-32, op-32, op, misc-mem, emit-native-instr};
+ghost use Rattle.emit_native.specs.Instr32.{lui, auipc, jal, jalr, branch-on, branch, op-imm, op-imm-32, op-32, op, misc-mem, emit-native-instr};
 use crate::Emitted;
 use crate::calls::go_on;
 use crate::calls::load;

@@ -2,9 +2,10 @@
 ghost use mathlib.Core.Path.{_≡_};
 ghost use mathlib.Core.List.{[], _∷_};
 ghost use Prim.Native.Nat.{ℕ, _<_};
-ghost use Rattle.a64.specs.Emitter.{held, emitted-all};
+ghost use Rattle.a64.specs.Parts.{held, emitted-all};
 ghost use Rattle.emit_native.specs.Isa.{F7-BASE, F7-SUB-SRA, F7-MULDIV};
-ghost use Rattle.emit_native.specs.Calls.{Call, groups, Emits, and-x, sxtw-x};
+ghost use Rattle.emit_native.specs.Calls.{Call, groups, and-x, sxtw-x};
+ghost use Rattle.emit_native.specs.Parts.{Emits};
 ghost use Rattle.emit_native.specs.Instr32.{op-32-arm};
 use crate::Emitted;
 use crate::calls::go_on;

@@ -1,10 +1,10 @@
 // `emit_native_term_helper16` and `emit_native_term_helper32`: the call of a helper that ends the block.
 ghost use mathlib.Core.Path.{_≡_};
 ghost use mathlib.Core.List.{[], _∷_};
-ghost use Prim.Native.Nat.{ℕ, _<_, _≤_};
-ghost use Rattle.a64.specs.Emitter.{held, emitted-all};
-ghost use Rattle.emit_native.specs.Calls.{Call, groups, Emits, add-x, mov-x, if-not-0, terminate};
-ghost use Rattle.emit_native.specs.Instr32.{InRange};
+ghost use Prim.Native.Nat.{ℕ, _≤_};
+ghost use Rattle.a64.specs.Parts.{held, emitted-all};
+ghost use Rattle.emit_native.specs.Calls.{Call, groups, add-x, mov-x, if-not-0, terminate};
+ghost use Rattle.emit_native.specs.Parts.{Emits, InRange};
 ghost use Rattle.emit_native.specs.TermHelper.{call-helper, call-exec, load-calls, store-calls, load-helper, store-helper, opcode-helper, memory-funct3, supports, emit-native-term-helper16, emit-native-term-helper32};
 use crate::Emitted;
 use crate::Host;

@@ -9,9 +9,8 @@ use lib.ListN.{length}
 use borrow.Author.Tests.{leb-true, leb-false}
 use Rattle.word.specs.Word.{add}
 use Rattle.le.specs.Le.{load}
-use Rattle.fetch_window.specs.declared.Halfword.{Halfword}
 use Rattle.fetch_window.specs.declared.Halfword.the-variants.{Missing, Found}
-use Rattle.fetch_window.specs.Window.{halfword-at, index}
+use Rattle.fetch_window.specs.Parts.{halfword-at, index}
 
 module _ (bytes : List ℕ) (i : ℕ) where
   found-by : (w : ℕ) (b : Bool) → leb (i + 2) (length bytes) ≡ b → cond b (Found (load 2 bytes i)) Missing ≡ Found w

@@ -1,6 +1,6 @@
 // The fetch window: `read_u16` of the original's `Bus`, for instruction fetches.
 ghost use mathlib.Core.Path.{_≡_};
-ghost use Rattle.fetch_window.specs.Window.{halfword-at, read-u16};
+ghost use Rattle.fetch_window.specs.Parts.{halfword-at, read-u16};
 
 // What stands at a PC.
 pub enum Halfword {

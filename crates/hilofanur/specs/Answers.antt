@@ -13,7 +13,6 @@ use Rattle.rv64.specs.Run.{number}
 use Rattle.a64_run.specs.declared.state.A64State.{A64State}
 use Rattle.a64_run.specs.declared.run.Answer.{Answer}
 use Rattle.a64_run.specs.Nzcv.{flagsOf, nzcvOf}
-use Rattle.a64_run.specs.Run as R
 use Rattle.hilofanur.specs.declared.TranslateAnswer.{TranslateAnswer}
 use Rattle.hilofanur.specs.declared.PlaceAnswer.{PlaceAnswer}
 use Rattle.hilofanur.specs.declared.A64RunAnswer.{A64RunAnswer}

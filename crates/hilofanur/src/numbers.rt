@@ -2,7 +2,8 @@
 ghost use mathlib.Core.Path.{_≡_};
 ghost use Prim.Native.Nat.{_*_, _≤_};
 ghost use lib.ListN.{length};
-ghost use Rattle.hilofanur.specs.Bytes.{numbers, over};
+ghost use Rattle.hilofanur.specs.Bytes.{numbers};
+ghost use Rattle.hilofanur.specs.Parts.{over};
 
 // The numbers at the front of b, into x.
 pub fn read(b: &[u8], x: &mut [u64])

@@ -24,24 +24,3 @@ classOf n =
     (cond (eqb n 0b1101111) Jal
     (cond (eqb n 0b1110011) System
     Other)))))))))))))))
-
--- the classes in the order of their opcodes
-unfoldable pub numbered : ℕ → Class
-numbered k =
-    cond (eqb k 1) Load
-    (cond (eqb k 2) LoadFp
-    (cond (eqb k 3) MiscMem
-    (cond (eqb k 4) OpImm
-    (cond (eqb k 5) Auipc
-    (cond (eqb k 6) OpImm32
-    (cond (eqb k 7) Store
-    (cond (eqb k 8) StoreFp
-    (cond (eqb k 9) Amo
-    (cond (eqb k 10) Op
-    (cond (eqb k 11) Lui
-    (cond (eqb k 12) Op32
-    (cond (eqb k 13) Branch
-    (cond (eqb k 14) Jalr
-    (cond (eqb k 15) Jal
-    (cond (eqb k 16) System
-    Other)))))))))))))))

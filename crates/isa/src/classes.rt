@@ -1,7 +1,8 @@
 // The class of each opcode, the low seven bits of a 32-bit instruction.
 ghost use mathlib.Core.Path.{_≡_};
 ghost use Rattle.isa.specs.Formats.{opcode};
-ghost use Rattle.isa.specs.Classes.{classOf, numbered};
+ghost use Rattle.isa.specs.Classes.{classOf};
+ghost use Rattle.isa.specs.Parts.{numbered};
 
 // The opcodes of isa.rs that the translator tells apart; every other one is Other.
 pub enum Class {

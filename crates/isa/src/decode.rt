@@ -2,7 +2,8 @@
 ghost use mathlib.Core.Path.{_≡_};
 ghost use Prim.Native.Nat.{_≤_};
 ghost use Rattle.word.specs.Word.{sext};
-ghost use Rattle.isa.specs.Formats.{decoded, immI, immS, immB, immU, immJ, immCIW, immCI, immCI16, immCJ, immCB, shamtC};
+ghost use Rattle.isa.specs.Formats.{immI, immB, immU, immJ, immCIW, immCI, immCI16, immCJ, immCB, shamtC};
+ghost use Rattle.isa.specs.Parts.{decoded, immS};
 
 pub struct Decoded32 {
     pub opcode: u8,

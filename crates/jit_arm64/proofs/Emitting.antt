@@ -10,7 +10,8 @@ use lib.ListN.{length, take, length-append, length-take}
 use borrow.Author.Tests.{eqb-true, eq-eqb, ne-eqb}
 use Rattle.a64.specs.declared.Form.{Form}
 use Rattle.a64.specs.Forms.{encode}
-use Rattle.a64.specs.Emitter.{max-words, held, encoded, halfword, constant, Added}
+use Rattle.a64.specs.Emitter.{encoded, halfword, constant}
+use Rattle.a64.specs.Parts.{max-words, held, Added}
 use Rattle.a64.proofs.Emission.{constant-length, upper-none, emitted-all-new, emitted-fits, length-encoded}
 use Rattle.isa.specs.declared.decode.Decoded32.{Decoded32}
 use Rattle.emit_native.specs.declared.EmitFlow.the-variants.{Terminate}
@@ -18,12 +19,14 @@ use Rattle.emit_native.specs.declared.Emitted.{Emitted}
 use Rattle.emit_native.specs.declared.Host.{Host}
 use Rattle.emit_native.specs.Isa.{OPCODE-LOAD, OPCODE-STORE, OPCODE-LOAD-FP, OPCODE-STORE-FP, OPCODE-SYSTEM, OPCODE-AMO, F3-LB, F3-LH, F3-LW, F3-LD, F3-LBU, F3-LHU, F3-LWU, F3-SB, F3-SH, F3-SW, F3-SD}
 use Rattle.emit_native.specs.Decode.{decode32, c-op, c-funct3, imm-i, imm-s}
-use Rattle.emit_native.specs.Calls.{Call, emit, mov-imm64, load, forms, groups, words, if-not-0, Emission, Emits, none, add-x, ldr-x, str-x, mov-x, sub-sp-imm, add-sp-imm, blr, ret}
+use Rattle.emit_native.specs.Calls.{Call, emit, mov-imm64, load, forms, groups, words, if-not-0, Emission, none, add-x, ldr-x, str-x, mov-x, sub-sp-imm, add-sp-imm, blr, ret}
+use Rattle.emit_native.specs.Parts.{Emits}
 use Rattle.emit_native.specs.Instr16.{emit-native-instr16, quadrant-0, quadrant-2}
 use Rattle.emit_native.specs.Instr32.{emit-native-instr}
 use Rattle.emit_native.specs.TermHelper.{call-helper, call-exec, load-calls, store-calls, load-helper, store-helper, load-op, store-op, opcode-helper, memory-funct3, supports, emit-native-term-helper16, emit-native-term-helper32}
 use Rattle.emit_native.proofs.Size.{size, size-append, size-le, if-size, by, instr-size, instr16-size}
-use Rattle.jit_arm64.specs.Block.{is-32, emit-native, emit-term-helper, Compiled}
+use Rattle.jit_arm64.specs.Block.{is-32, emit-native, emit-term-helper}
+use Rattle.jit_arm64.specs.Parts.{Compiled}
 
 -- ---- words after others
 

@@ -1,18 +1,19 @@
 -- The end of a block after the words of its instructions: they all fit. Assumes nothing.
 use Prim.Native.Nat.{ℕ, _+_, _≤_}
 use native.Mathlib.Omega.{arith}
-use mathlib.Core.Path.{_≡_, refl, sym, ap, _∙_}
+use mathlib.Core.Path.{_≡_, refl, ap, _∙_}
 use mathlib.Core.List.{List, [], _∷_, _++_, flatten}
 use lib.ListN.{length, take, length-take}
 use Rattle.word.specs.Word.{add}
 use Rattle.a64.specs.declared.A64Emitter.{A64Emitter}
-use Rattle.a64.specs.Emitter.{max-words, block-words, emitted-in, emitted-all}
+use Rattle.a64.specs.Parts.{max-words, block-words, emitted-in, emitted-all}
 use Rattle.a64.proofs.Emission.{emitted-fits, emitted-all-new}
 use Rattle.emit_native.specs.Calls.{Call, emit, mov-imm64, ret, groups, words}
 use Rattle.emit_native.proofs.Size.{size, size-append, size-le}
 use Rattle.jit_arm64.specs.declared.block.Stop.{Stop}
 use Rattle.jit_arm64.specs.declared.block.Stop.the-variants.{Limit, Ended, Helper, Uncovered, NotFetched}
-use Rattle.jit_arm64.specs.Block.{max-steps, Walk, return-calls, next-calls, end-calls, BlockOf}
+use Rattle.jit_arm64.specs.Block.{max-steps, Walk, return-calls, next-calls, end-calls}
+use Rattle.jit_arm64.specs.Parts.{BlockOf}
 use Rattle.jit_arm64.proofs.Emitting.{small, words-append, words-size}
 use Rattle.jit_arm64.proofs.Walking.{end-room, AtEnd}
 

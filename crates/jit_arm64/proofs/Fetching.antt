@@ -2,14 +2,14 @@
 use Prim.Native.Nat.{ℕ, _+_, _*_, _%_, _^_, _<_}
 use native.Mathlib.Omega.{arith}
 use mathlib.Core.Path.{_≡_, refl, sym, _∙_, ap}
-use mathlib.Core.Bool.{Bool, true, false, cond}
 use mathlib.Core.Option.{Option, none, some}
 use borrow.Author.Tests.{eq-eqb, ne-eqb}
 use Rattle.word.specs.Word.{add}
-use Rattle.fetch_window.specs.Window.{index}
+use Rattle.fetch_window.specs.Parts.{index}
 use Rattle.fetch_window.proofs.Reading.{index-add}
 use Rattle.jit_arm64.specs.declared.fetch.Fetched.{Fetched}
-use Rattle.jit_arm64.specs.Block.{is-32, size-of, fetched, FetchedOf}
+use Rattle.jit_arm64.specs.Block.{is-32, size-of}
+use Rattle.jit_arm64.specs.Parts.{fetched, FetchedOf}
 use Rattle.emit_native.proofs.Size.{by}
 
 -- nothing

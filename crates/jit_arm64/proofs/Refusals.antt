@@ -13,7 +13,7 @@ use Rattle.emit_native.specs.declared.EmitFlow.{EmitFlow}
 use Rattle.emit_native.specs.declared.EmitFlow.the-variants.{Continue, Terminate, None}
 use Rattle.emit_native.specs.Calls.{Call, Emission}
 use Rattle.emit_native.proofs.Size.{by}
-use Rattle.jit_arm64.specs.Block.{Walk, fetch, emit-native, emit-term-helper, size-of, helped, step, instr-walk, walk, whole-walk, compile-native-block}
+use Rattle.jit_arm64.specs.Block.{Walk, fetch, size-of, helped, step, instr-walk, walk, whole-walk}
 use Rattle.jit_arm64.specs.Translate.{is-missing, neither, is-uncovered}
 
 -- the walk never counts less than it began with
@@ -66,6 +66,11 @@ no-block (some w) = false
 test : (b : Bool) (w : Walk) → no-block (cond b none (some w)) ≡ b
 test true w = refl
 test false w = refl
+
+-- no block where no instruction was emitted
+unfoldable pub compile-native-block : Host → List ℕ → ℕ → ℕ → Option Walk
+compile-native-block h guest pc limit =
+    cond (ltb ((whole-walk h guest pc limit) .count) 1) none (some (whole-walk h guest pc limit))
 
 -- what is said of the first instruction
 abbrev pub first : Host → List ℕ → ℕ → Bool

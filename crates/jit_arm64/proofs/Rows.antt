@@ -1,7 +1,7 @@
 -- Document 01's marked blocks, as one list over which one fact is shown. Assumes nothing.
 use Prim.Native.Nat.{ℕ, zero, suc, _*_, _-_}
 use mathlib.Core.Path.{_≡_, refl}
-use mathlib.Core.Bool.{Bool, false}
+use mathlib.Core.Bool.{false}
 use mathlib.Core.List.{List, [], _∷_, _++_, map, flatten}
 use lib.ListN.{length, replicate}
 use Rattle.a64.specs.Emitter.{bytes, constant, upper}
@@ -14,7 +14,6 @@ use Rattle.jit_arm64.specs.Block as B
 use Rattle.emit_native.specs.Calls as C
 use Rattle.emit_native.specs.Decode as D
 use Rattle.emit_native.specs.Instr16 as I
-use Rattle.emit_native.specs.Instr32 as J
 use Rattle.emit_native.specs.TermHelper as H
 
 host : Host

@@ -1,20 +1,21 @@
 -- Translate by its parts: which refusal, and the answer. Assumes nothing.
-use Prim.Native.Nat.{ℕ, _+_, _*_, _%_, _≤_, _<_, min}
+use Prim.Native.Nat.{ℕ, _*_, _%_, _≤_, _<_}
 use native.Mathlib.Omega.{arith}
 use mathlib.Core.Path.{_≡_, refl, sym, ap, _∙_}
-use mathlib.Core.Bool.{Bool, true, false, cond, not, _||_}
+use mathlib.Core.Bool.{Bool, true, false, cond}
 use mathlib.Core.List.{List}
 use lib.Dec.{eqb, ltb}
 use lib.ListN.{length, take, length-take}
 use borrow.Author.Tests.{le-ltb, lt-ltb, le-leb, lt-leb, eq-eqb, ne-eqb, ltb-false}
 use Rattle.a64.specs.declared.A64Emitter.{A64Emitter}
-use Rattle.a64.specs.Emitter.{max-words, block-words, bytes, written, Written}
+use Rattle.a64.specs.Emitter.{bytes}
+use Rattle.a64.specs.Parts.{max-words, block-words, written, Written}
 use Rattle.a64.proofs.Emission.{length-bytes}
 use Rattle.emit_native.specs.declared.Host.{Host}
-use Rattle.emit_native.specs.Calls.{words}
 use Rattle.emit_native.proofs.Size.{by}
 use Rattle.jit_arm64.specs.declared.block.NativeBlock.{NativeBlock}
-use Rattle.jit_arm64.specs.Block.{fetch, whole-walk, BlockOf}
+use Rattle.jit_arm64.specs.Block.{fetch, whole-walk}
+use Rattle.jit_arm64.specs.Parts.{BlockOf}
 use Rattle.jit_arm64.specs.Translate.{max-slots, bad-slots, is-missing, is-uncovered, block-bytes, refusal, refused, by-helper, accepted, translate, output-after}
 
 -- refusals 4 and 5 come before any other

@@ -5,19 +5,20 @@ use mathlib.Core.Path.{_≡_, refl, sym, ap, _∙_}
 use mathlib.Core.List.{List, [], _++_, append-assoc, append-nil, flatten}
 use lib.ListN.{length, take}
 use Rattle.word.specs.Word.{add}
-use Rattle.a64.specs.Emitter.{max-words, held, Added}
+use Rattle.a64.specs.Parts.{max-words, held, Added}
 use Rattle.emit_native.specs.declared.EmitFlow.{EmitFlow}
 use Rattle.emit_native.specs.declared.EmitFlow.the-variants.{Continue, Terminate, None}
 use Rattle.emit_native.specs.declared.Emitted.{Emitted}
 use Rattle.emit_native.specs.declared.Host.{Host}
 use Rattle.emit_native.specs.Calls.{Call, words, Emission}
 use Rattle.emit_native.proofs.Size.{by}
-use Rattle.fetch_window.specs.Window.{index}
+use Rattle.fetch_window.specs.Parts.{index}
 use Rattle.fetch_window.proofs.Reading.{index-add}
 use Rattle.jit_arm64.specs.declared.fetch.Fetched.{Fetched}
 use Rattle.jit_arm64.specs.declared.block.Stop.{Stop}
 use Rattle.jit_arm64.specs.declared.block.Stop.the-variants.{Limit, Ended, Helper, Uncovered, NotFetched}
-use Rattle.jit_arm64.specs.Block.{max-steps, is-32, size-of, emit-native, emit-term-helper, fetch, Walk, walked, in-front, helped, step, instr-walk, walk, FetchedOf, Compiled}
+use Rattle.jit_arm64.specs.Block.{max-steps, is-32, size-of, emit-native, emit-term-helper, fetch, Walk, walked, in-front, helped, step, instr-walk, walk}
+use Rattle.jit_arm64.specs.Parts.{FetchedOf, Compiled}
 use Rattle.jit_arm64.proofs.Emitting.{Appended, put, words-append, words-size, Apart, native-size, native-apart, helped-size, uncovered-size}
 use Rattle.jit_arm64.proofs.Fetching.{is-none, is-some}
 

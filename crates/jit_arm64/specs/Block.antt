@@ -1,23 +1,18 @@
 -- `compile_native_block`: the walk over the guest code, and the end of the block.
-use Prim.Native.Nat.{ℕ, zero, suc, _+_, _*_, _%_, _^_, _<_, min}
+use Prim.Native.Nat.{ℕ, zero, suc, _+_, _*_, _%_, _^_, min}
 use mathlib.Core.Bool.{Bool, cond}
 use mathlib.Core.List.{List, [], _∷_, _++_}
 use mathlib.Core.Option.{Option, none, some}
-use mathlib.Core.Path.{_≡_}
 use lib.ListN.{length}
-use lib.Dec.{eqb, leb, ltb}
+use lib.Dec.{eqb, leb}
 use Rattle.word.specs.Word.{add}
 use Rattle.le.specs.Le.{load}
-use Rattle.a64.specs.Emitter.{held, block-words}
 use Rattle.emit_native.specs.declared.Host.{Host}
 use Rattle.emit_native.specs.declared.EmitFlow.{EmitFlow}
 use Rattle.emit_native.specs.declared.EmitFlow.the-variants.{Continue, Terminate, None}
-use Rattle.emit_native.specs.declared.Emitted.{Emitted}
-use Rattle.jit_arm64.specs.declared.fetch.Fetched.{Fetched}
 use Rattle.jit_arm64.specs.declared.block.Stop.{Stop}
 use Rattle.jit_arm64.specs.declared.block.Stop.the-variants.{Limit, Ended, Helper, Uncovered, NotFetched}
-use Rattle.jit_arm64.specs.declared.block.NativeBlock.{NativeBlock}
-use Rattle.emit_native.specs.Calls.{Call, emit, mov-imm64, ret, words, Emission}
+use Rattle.emit_native.specs.Calls.{Call, emit, mov-imm64, ret, Emission}
 use Rattle.emit_native.specs.Decode.{decode32}
 use Rattle.emit_native.specs.Instr16.{emit-native-instr16}
 use Rattle.emit_native.specs.Instr32.{emit-native-instr}
@@ -124,34 +119,3 @@ block-calls w = w .calls ++ end-calls (w .stop) (w .pc) (w .count)
 
 unfoldable pub whole-walk : Host → List ℕ → ℕ → ℕ → Walk
 whole-walk h guest pc limit = walk h guest pc (min limit max-steps) 0 0
-
--- no block where no instruction was emitted
-unfoldable pub compile-native-block : Host → List ℕ → ℕ → ℕ → Option Walk
-compile-native-block h guest pc limit =
-    cond (ltb ((whole-walk h guest pc limit) .count) 1) none (some (whole-walk h guest pc limit))
-
--- ---- what the code's parts answer
-
--- what was fetched, and its length in bytes; 0 for both where a halfword is missing
-unfoldable pub fetched : Option ℕ → Fetched
-fetched none = record { size = 0; instr = 0 }
-fetched (some instr) = record { size = size-of instr; instr = instr }
-
--- an instruction of 16 bits is one
-abbrev pub Narrow : ℕ → Type 0
-Narrow instr = (instr % 4 ≡ 3 → ⊥) → instr < 2 ^ 16
-
-pub record FetchedOf (f : Option ℕ) (r : Fetched) : Type 0 where
-  pub found : r ≡ fetched f
-  pub narrow : Narrow (r .instr)
-
--- an instruction's words, emitted by themselves, and the flow
-pub record Compiled (slots : ℕ) (cs : List Call) (f : EmitFlow) (r : Emitted) : Type 0 where
-  pub holds : held (r .em) ≡ words slots cs
-  pub flow : r .flow ≡ f
-
--- the block's words
-pub record BlockOf (slots : ℕ) (w : Walk) (r : NativeBlock) : Type 0 where
-  pub holds : block-words (r .em) ≡ words slots (block-calls w)
-  pub count : r .count ≡ w .count
-  pub stop : r .stop ≡ w .stop

@@ -4,8 +4,9 @@ ghost use mathlib.Core.Bool.{true};
 ghost use mathlib.Core.Option.{none};
 ghost use Prim.Native.Nat.{_+_, _≤_};
 ghost use lib.ListN.{length};
-ghost use Rattle.fetch_window.specs.Window.{index};
-ghost use Rattle.jit_arm64.specs.Block.{half, is-32, fetch-upper, fetch, fetched, FetchedOf};
+ghost use Rattle.fetch_window.specs.Parts.{index};
+ghost use Rattle.jit_arm64.specs.Block.{half, is-32, fetch-upper, fetch};
+ghost use Rattle.jit_arm64.specs.Parts.{fetched, FetchedOf};
 use fetch_window::Halfword;
 use fetch_window::read_u16;
 

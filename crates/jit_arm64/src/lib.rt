@@ -1,7 +1,6 @@
 // The block translator: RV64 guest blocks in, A64 words out. `compile_native_block` of jit_arm64.rs, and the operation Translate.
 ghost use mathlib.Core.Path.{_≡_};
 ghost use mathlib.Core.Bool.{false};
-ghost use lib.ListN.{length};
 ghost use Rattle.jit_arm64.specs.Translate.{host, bad-slots, refused, by-helper, translate, output-after};
 use block::Stop;
 use emit_native::Host;

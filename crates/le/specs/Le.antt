@@ -1,7 +1,11 @@
 -- Numbers as bytes, the lowest first, and their place in a list of bytes.
 use mathlib.Core.List.{List, [], _∷_, _++_}
-use Prim.Native.Nat.{ℕ, zero, suc, _+_, _*_, _/_, _%_}
-use lib.ListN.{length, take, drop}
+use Prim.Native.Nat.{ℕ, zero, suc, _+_, _*_, _/_, _%_, _<_}
+use lib.ListN.{take, drop, getD}
+
+-- every element is a byte
+unfoldable pub Bytes : List ℕ → Type 0
+Bytes m = (i : ℕ) → getD m i 0 < 256
 
 unfoldable pub number : List ℕ → ℕ
 number [] = 0

@@ -14,7 +14,7 @@ use Rattle.rv64.specs.declared.run.Fetched.{Fetched}
 use Rattle.rv64.specs.Decode.{decode32}
 use Rattle.rv64.specs.Compressed.{decode16}
 use Rattle.rv64.specs.Run.{halfword, fetch}
-use Rattle.rv64.specs.Step.{encoding}
+use Rattle.rv64.specs.Parts.{encoding}
 
 unfoldable pub decoded : Bool → Encoding → Fetched
 decoded e Encoding.Missing = Fetched.Missing

@@ -3,3 +3,4 @@ pub mod Steps
 pub mod Fetching
 pub mod Running
 pub mod Refusing
+pub mod Examples

@@ -1,6 +1,6 @@
 -- A run's refusals 4 and 5, from its count and why it stopped.
 use mathlib.Core.Bool.{Bool, cond}
-use mathlib.Core.Path.{_≡_, refl, sym, _∙_}
+use mathlib.Core.Path.{_≡_, refl, _∙_}
 use mathlib.Core.List.{List}
 use Prim.Native.Nat.{ℕ, zero, suc, _+_, _-_, _%_, _≤_}
 use native.Mathlib.Omega.{arith}
@@ -14,10 +14,9 @@ use Rattle.rv64.specs.declared.run.Fetched.{Fetched}
 use Rattle.rv64.specs.declared.run.Stop.{Stop}
 use Rattle.rv64.specs.declared.run.Ran.{Ran}
 use Rattle.rv64.specs.declared.run.Refusal.{Refusal}
-use Rattle.rv64.specs.declared.run.Answer.{Answer}
 use Rattle.rv64.specs.Execute.{exec, covered}
 use Rattle.rv64.specs.Run.{fetch, run, step, onward, clamped, number, refusalFirst, refusalOf, answerOf, answer}
-use Rattle.rv64.specs.Step.{atFirst, refused}
+use Rattle.rv64.specs.Parts.{atFirst, refused}
 
 -- the count never falls
 

@@ -15,7 +15,7 @@ use Rattle.rv64.specs.declared.run.Stop.{Stop}
 use Rattle.rv64.specs.declared.run.Ran.{Ran}
 use Rattle.rv64.specs.Execute.{exec}
 use Rattle.rv64.specs.Run.{fetch, run, step, onward, hart, stopped}
-use Rattle.rv64.specs.Step.{flowed, stepped, after}
+use Rattle.rv64.specs.Parts.{flowed, stepped, after}
 use Rattle.rv64.proofs.Fetching.{within}
 
 -- how a run goes on after a step at pc that left the registers x

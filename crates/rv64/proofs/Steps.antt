@@ -9,7 +9,7 @@ use borrow.Author.Tests.{ne-eqb}
 use Rattle.isa.specs.declared.classes.Class.{Class}
 use Rattle.isa.specs.Classes.{classOf}
 use Rattle.word.specs.Word.{add}
-use Rattle.isa.specs.Formats.{inst, rd, rs1, rs2, funct3, immI, immB, highReg, lowReg}
+use Rattle.isa.specs.Formats.{inst, rd, rs1, rs2, funct3, immB, highReg, lowReg}
 use Rattle.rv64.specs.declared.alu.Alu.{Alu}
 use Rattle.rv64.specs.declared.alu.Cond.{Cond}
 use Rattle.rv64.specs.declared.decode.Instr.{Instr}
@@ -19,7 +19,7 @@ use Rattle.rv64.specs.Alu.{value, taken}
 use Rattle.rv64.specs.Decode as D
 use Rattle.rv64.specs.Compressed as C
 use Rattle.rv64.specs.Execute.{Step, exec, read, write}
-use Rattle.rv64.specs.Step as S
+use Rattle.rv64.specs.Parts as S
 use Rattle.rv64.proofs.Tables.{Missed, both, either}
 
 -- a step by its parts

@@ -1,7 +1,7 @@
 -- The 16-bit encodings, each as the instruction that it stands for, from the RISC-V Unprivileged ISA, extension C, 'RVC
 -- Instruction Set Listings'; what is covered and what is a helper's, from document 01, rules 2 to 4. Definitions only.
 use mathlib.Core.Bool.{Bool, cond}
-use mathlib.Core.List.{List, [], _∷_}
+use mathlib.Core.List.{[], _∷_}
 use Prim.Native.Nat.{ℕ, _+_, _*_, _%_}
 use lib.Dec.{eqb}
 use Rattle.word.specs.Word.{shl}

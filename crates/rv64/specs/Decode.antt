@@ -10,7 +10,6 @@ use Rattle.isa.specs.Formats.{inst, opcode, rd, funct3, rs1, rs2, funct7, immI,
 use Rattle.rv64.specs.declared.alu.Alu.{Alu}
 use Rattle.rv64.specs.declared.alu.Cond.{Cond}
 use Rattle.rv64.specs.declared.decode.Instr.{Instr}
-use Rattle.rv64.specs.declared.decode.Entry.{Entry}
 
 -- ---- tables: from funct7_funct3, funct6_funct3 or funct3 to what is computed
 
@@ -21,9 +20,6 @@ Table A = List (ℕ × A)
 abbrev pub lookup : {A B : Type 0} → Table A → ℕ → (A → B) → B → B
 lookup [] n make other = other
 lookup ((k, a) ∷ t) n make other = cond (eqb n k) (make a) (lookup t n make other)
-
-abbrev pub entry : Table Alu → ℕ → Entry
-entry t n = lookup t n Entry.Alu Entry.Reserved
 
 -- OP: RV32I and RV64I, then M
 unfoldable pub ops : Table Alu

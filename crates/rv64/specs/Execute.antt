@@ -2,7 +2,7 @@
 -- 'RV64I'. Definitions only.
 use mathlib.Core.Bool.{Bool, true, false, cond}
 use mathlib.Core.List.{List}
-use Prim.Native.Nat.{ℕ, _*_, _/_, _<_}
+use Prim.Native.Nat.{ℕ, _*_, _/_}
 use lib.Dec.{eqb}
 use lib.ListN.{getD, set}
 use Rattle.word.specs.Word.{add}
@@ -55,16 +55,3 @@ covered (Instr.Branch k rs1 rs2 imm) = true
 covered Instr.Nop = true
 covered Instr.Helper = false
 covered Instr.Uncovered = false
-
--- every register's number is one of 0 to 31
-abbrev pub registers : Instr → Type 0
-registers (Instr.Op k rd rs1 rs2) = (rd < 32) × (rs1 < 32) × (rs2 < 32)
-registers (Instr.OpImm k rd rs1 imm) = (rd < 32) × (rs1 < 32)
-registers (Instr.Lui rd imm) = rd < 32
-registers (Instr.Auipc rd imm) = rd < 32
-registers (Instr.Jal rd imm) = rd < 32
-registers (Instr.Jalr rd rs1 imm) = (rd < 32) × (rs1 < 32)
-registers (Instr.Branch k rs1 rs2 imm) = (rs1 < 32) × (rs2 < 32)
-registers Instr.Nop = Unit {0}
-registers Instr.Helper = Unit {0}
-registers Instr.Uncovered = Unit {0}

@@ -3,5 +3,4 @@ pub mod Decode
 pub mod Compressed
 pub mod Execute
 pub mod Run
-pub mod Step
-pub mod Examples
+pub mod Parts

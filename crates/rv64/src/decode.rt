@@ -1,11 +1,9 @@
 // The 32-bit encodings, and what their instructions do.
 ghost use mathlib.Core.Path.{_≡_};
-ghost use Prim.Native.Nat.{_<_};
-ghost use Rattle.isa.specs.Formats as F;
 ghost use Rattle.word.specs.Word as W;
 ghost use Rattle.rv64.specs.Decode as D;
 ghost use Rattle.rv64.specs.Execute as X;
-ghost use Rattle.rv64.specs.Step as S;
+ghost use Rattle.rv64.specs.Parts as S;
 use crate::alu::Alu;
 use crate::alu::Cond;
 use crate::alu::bit;
@@ -75,12 +73,6 @@ pub enum Instr {
     // left to a helper
     Helper,
     Uncovered,
-}
-
-// What a table of encodings has at a place.
-pub enum Entry {
-    Alu(Alu),
-    Reserved,
 }
 
 // funct7 and funct3, side by side.

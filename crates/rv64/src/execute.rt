@@ -2,7 +2,7 @@
 ghost use mathlib.Core.Path.{_≡_};
 ghost use Prim.Native.Nat.{_<_};
 ghost use Rattle.rv64.specs.Execute as X;
-ghost use Rattle.rv64.specs.Step as S;
+ghost use Rattle.rv64.specs.Parts as S;
 
 pub enum Flow {
     // on at this PC

@@ -1,9 +1,9 @@
 // A block's run, and the operation RV64 run.
 ghost use mathlib.Core.Path.{_≡_};
 ghost use Prim.Native.Nat.{_≤_};
-ghost use lib.ListN.{length, drop, getD};
+ghost use lib.ListN.{length, drop};
 ghost use Rattle.rv64.specs.Run as R;
-ghost use Rattle.rv64.specs.Step as S;
+ghost use Rattle.rv64.specs.Parts as S;
 use crate::compressed::step16;
 use crate::decode::Instr;
 use crate::decode::step32;

@@ -1,14 +1,14 @@
 -- Every 16-bit encoding: the Rust's emission agrees with the ISA's instruction. Assumes nothing.
-use mathlib.Core.Path.{_≡_, refl, sym, ap, _∙_}
-use mathlib.Core.Bool.{Bool, true, false, cond, _&&_}
-use mathlib.Core.List.{List, [], _∷_, _++_}
-use Prim.Native.Nat.{ℕ, zero, suc, _+_, _-_, _*_, _/_, _%_, _^_, _≤_, _<_}
+use mathlib.Core.Path.{_≡_, refl}
+use mathlib.Core.Bool.{Bool, true, false, cond}
+use mathlib.Core.List.{[], _∷_, _++_}
+use Prim.Native.Nat.{ℕ, zero, suc, _%_, _^_, _<_}
 use native.Mathlib.Omega.{arith}
-use lib.Bits.{bitAnd, or-zero-r}
-use lib.Dec.{eqb, ltb, T}
-use lib.ListN.{getD, set}
-use borrow.Author.Tests.{eqb-true, eqb-false, eq-eqb, ne-eqb}
-use Rattle.word.specs.Word.{wrap, add, shl}
+use lib.Bits.{or-zero-r}
+use lib.Dec.{eqb}
+use lib.ListN.{getD}
+use borrow.Author.Tests.{eqb-true, eqb-false, ne-eqb}
+use Rattle.word.specs.Word.{add, shl}
 use Rattle.isa.specs.Formats.{inst, rd, lowReg, highReg, immCIW, immCI, shamtC, immCI16, immCJ, immCB}
 use Rattle.a64_run.specs.Exec.{opValue}
 use Rattle.rv64.specs.declared.alu.Alu.{Alu}
@@ -16,17 +16,16 @@ use Rattle.rv64.specs.declared.alu.Cond.{Cond}
 use Rattle.rv64.specs.declared.decode.Instr.{Instr}
 use Rattle.rv64.specs.Alu.{value}
 use Rattle.rv64.specs.Execute.{read, write, exec}
-use Rattle.rv64.specs.Decode.{lookup}
 use Rattle.rv64.specs.Compressed as C
 use Rattle.emit_native.specs.declared.EmitFlow.{EmitFlow}
 use Rattle.emit_native.specs.Isa.{not-1}
-use Rattle.emit_native.specs.Calls.{Call, emit, mov-imm64, load, store, and-x, orr-x, if-not-0, Emission, continue, terminate, none, behind, store-rd, then-store-rd}
+use Rattle.emit_native.specs.Calls.{emit, mov-imm64, load, store, and-x, orr-x, Emission, continue, terminate, none, behind, store-rd}
 use Rattle.emit_native.specs.Decode as J
 use Rattle.emit_native.specs.Instr16 as E
 use Rattle.emit_native.proofs.Decoding.{imm-ci-is, shamt-is, imm-addi4spn-is, imm-addi16sp-is, imm-cj-is, imm-cb-is}
 use Rattle.translation.proofs.Calls.{Host, form-step, call-step, calls-run, scratch, form-fits, written, fits, keeps, all-fit, all-keep, Kept}
 use Rattle.translation.proofs.Alus.{body, body-law}
-use Rattle.translation.proofs.Instrs.{Agrees, Fine, Does, nothing, two, body-fine, condition, fork, behind-does, with-constant, fork-does, fork-next, even, read-slot, op-agrees, imm-agrees, lui-agrees, jal-agrees, nop-agrees, uncovered-agrees, helper-agrees}
+use Rattle.translation.proofs.Instrs.{Agrees, nothing, two, body-fine, condition, fork, behind-does, with-constant, fork-does, fork-next, even, read-slot, op-agrees, imm-agrees, lui-agrees, jal-agrees, nop-agrees, uncovered-agrees, helper-agrees}
 use Rattle.translation.proofs.Agree32.{digit}
 
 -- the store of a register that is not 0

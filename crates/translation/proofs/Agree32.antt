@@ -1,23 +1,22 @@
 -- Every 32-bit encoding: the Rust's emission agrees with the ISA's instruction. Assumes nothing.
 use mathlib.Core.Path.{_≡_, refl, sym, ap, _∙_}
 use mathlib.Core.Bool.{Bool, true, false, cond, _&&_, _||_}
-use mathlib.Core.List.{List, [], _∷_, _++_}
-use Prim.Native.Nat.{ℕ, zero, suc, _+_, _*_, _/_, _%_, _^_, _≤_, _<_}
+use mathlib.Core.List.{List, [], _∷_}
+use Prim.Native.Nat.{ℕ, zero, suc, _+_, _*_, _/_, _%_, _^_, _<_}
 use native.Mathlib.Omega.{arith}
 use lib.Dec.{eqb, ltb, T}
 use lib.ListN.{getD}
-use borrow.Author.Tests.{eqb-true, eqb-false, eq-eqb, ne-eqb}
-use Rattle.word.specs.Word.{add}
+use borrow.Author.Tests.{eqb-true, eqb-false, ne-eqb}
 use Rattle.isa.specs.declared.classes.Class.{Class}
 use Rattle.isa.specs.Classes.{classOf}
-use Rattle.isa.specs.Formats.{inst, opcode, rd, rs1, rs2, funct3, funct7, immI, immB, immU, immJ}
+use Rattle.isa.specs.Formats.{inst, rd, rs1, rs2, funct3, funct7, immI, immB, immU, immJ}
 use Rattle.rv64.specs.declared.alu.Alu.{Alu}
 use Rattle.rv64.specs.declared.alu.Cond.{Cond}
 use Rattle.rv64.specs.declared.decode.Instr.{Instr}
 use Rattle.rv64.specs.Alu.{value}
 use Rattle.rv64.specs.Decode as D
 use Rattle.rv64.specs.Decode.{Table, lookup}
-use Rattle.emit_native.specs.Calls.{Call, emit, mov-imm64, load, store, Emission, continue, terminate, none, behind, store-rd, then-store-rd, cmp-x}
+use Rattle.emit_native.specs.Calls.{Call, mov-imm64, load, Emission, continue, none, behind, store-rd, then-store-rd}
 use Rattle.emit_native.specs.Decode as J
 use Rattle.emit_native.specs.Instr32 as E
 use Rattle.emit_native.proofs.Decoding.{imm-i-is, imm-b-is, imm-u-is, imm-j-is}

@@ -3,21 +3,21 @@
 use mathlib.Core.Path.{_≡_, refl, sym, ap, ap₂, _∙_}
 use mathlib.Core.Bool.{Bool, true, false, cond, not, xor, _&&_}
 use mathlib.Core.List.{List, [], _∷_}
-use Prim.Native.Nat.{ℕ, _+_, _-_, _*_, _/_, _%_, _^_, _≤_, _<_}
+use Prim.Native.Nat.{ℕ, _-_, _%_, _^_, _<_}
 use native.Mathlib.Nat.{le-of-lt}
 use native.Mathlib.Omega.{arith}
 use lib.Bits.{bitAnd, and-mask}
-use lib.Dec.{eqb, leb, ltb, T}
+use lib.Dec.{eqb, leb, ltb}
 use lib.Pow.{pow-pos}
 use borrow.Author.Tests.{leb-true, leb-false, eqb-true, lt-ltb, le-ltb}
-use Rattle.word.specs.Word.{wrap, sub, sign, sext, slt, sdiv, srem, signed, magnitude, asr}
-use Rattle.word.specs.Laws.{product-below}
-use Rattle.a64_run.specs.Exec.{opValue, compared, holds, holds-even, difference}
-use Rattle.a64_run.specs.Flags.{difference-sub, z-law, c-law, n-law, lt-law}
+use Rattle.word.specs.Word.{sext, sdiv, srem, signed, magnitude}
+use Rattle.word.proofs.Laws.{product-below}
+use Rattle.a64_run.specs.Exec.{opValue, holds, holds-even, difference}
+use Rattle.a64_run.proofs.Flags.{difference-sub, z-law, c-law, n-law, lt-law}
 use Rattle.rv64.specs.declared.alu.Alu.{Alu}
-use Rattle.rv64.specs.Alu.{value, quotient, remainder, quotientU, remainderU, overflows}
-use Rattle.emit_native.specs.Isa.{C-EQ, C-NE, C-CS, C-CC, C-MI, C-GE, C-LT, u64-MAX, i64-MIN, not-1}
-use Rattle.emit_native.specs.Calls.{Call, emit, mov-imm64, load, store, add-x, sub-x, and-x, orr-x, eor-x, lslv-x, lsrv-x, asrv-x, mul-x, smulh-x, umulh-x, udiv-x, sdiv-x, cmp-x, csel-x, sxtw-x}
+use Rattle.rv64.specs.Alu.{value, quotient, remainder, quotientU, remainderU}
+use Rattle.emit_native.specs.Isa.{C-EQ, C-CC, C-MI, C-LT, u64-MAX, i64-MIN}
+use Rattle.emit_native.specs.Calls.{Call, emit, mov-imm64, add-x, sub-x, and-x, orr-x, eor-x, lslv-x, lsrv-x, asrv-x, mul-x, smulh-x, umulh-x, udiv-x, sdiv-x, cmp-x, csel-x, sxtw-x}
 use Rattle.translation.proofs.Calls.{Host, form-step, call-step, calls-run}
 use Rattle.translation.proofs.Remainders.{rem-law, remu-law, mulhsu-law}
 

@@ -1,18 +1,18 @@
 -- The walk over the guest code does on the host what the ISA's run does. Assumes nothing.
-use mathlib.Core.Path.{_≡_, refl, sym, ap, _∙_}
-use mathlib.Core.Bool.{Bool, true, false, cond, not, true≢false}
+use mathlib.Core.Path.{_≡_, refl, ap, _∙_}
+use mathlib.Core.Bool.{Bool, true, false, cond, not}
 use mathlib.Core.Option.{Option, none, some}
 use mathlib.Core.Logic.{_⊎_, inl, inr}
 use mathlib.Core.List.{List, [], _∷_, _++_, append-assoc, append-nil}
-use Prim.Native.Nat.{ℕ, zero, suc, _+_, _-_, _*_, _/_, _%_, _^_, _≤_, _<_}
+use Prim.Native.Nat.{ℕ, zero, suc, _+_, _-_, _*_, _%_, _^_, _<_}
 use native.Mathlib.Omega.{arith}
 use lib.Dec.{eqb, leb, ltb, T}
-use lib.ListN.{length, getD, set, drop, length-drop}
+use lib.ListN.{length, getD, drop, length-drop}
 use lib.Seq.{drop-drop}
-use borrow.Author.Tests.{eqb-true, eqb-false, ne-eqb, eq-eqb, leb-true, leb-false, lt-ltb, le-ltb}
-use Rattle.word.specs.Word.{wrap, add}
-use Rattle.le.specs.Le.{load}
-use Rattle.le.specs.Laws.{Bytes, load-lt, load-add}
+use borrow.Author.Tests.{eqb-true, ne-eqb, eq-eqb, leb-true, leb-false, lt-ltb, le-ltb}
+use Rattle.word.specs.Word.{add}
+use Rattle.le.specs.Le.{Bytes, load}
+use Rattle.le.proofs.Laws.{load-lt, load-add}
 use Rattle.isa.specs.declared.decode.Decoded32.{Decoded32}
 use Rattle.rv64.specs.declared.decode.Instr.{Instr}
 use Rattle.rv64.specs.declared.execute.Flow.{Flow}
@@ -20,14 +20,14 @@ use Rattle.rv64.specs.declared.run.Hart.{Hart}
 use Rattle.rv64.specs.declared.run.Fetched as RF
 use Rattle.rv64.specs.declared.run.Stop as RS
 use Rattle.rv64.specs.declared.run.Ran.{Ran}
-use Rattle.rv64.specs.Execute.{read, write, exec}
+use Rattle.rv64.specs.Execute.{write, exec}
 use Rattle.rv64.specs.Decode as RD
 use Rattle.rv64.specs.Compressed as RC
 use Rattle.rv64.specs.Run as R
 use Rattle.emit_native.specs.declared.EmitFlow.{EmitFlow}
 use Rattle.emit_native.specs.declared.Host as JH
 use Rattle.jit_arm64.specs.declared.block.Stop.{Stop}
-use Rattle.emit_native.specs.Calls.{Call, emit, mov-imm64, Emission}
+use Rattle.emit_native.specs.Calls.{Call, mov-imm64, Emission}
 use Rattle.emit_native.specs.Calls as JC
 use Rattle.emit_native.specs.Isa.{OPCODE-SYSTEM, OPCODE-LOAD, OPCODE-STORE, OPCODE-LOAD-FP, OPCODE-STORE-FP, OPCODE-AMO}
 use Rattle.emit_native.specs.Decode as JD
@@ -36,8 +36,8 @@ use Rattle.emit_native.specs.Instr32 as E32
 use Rattle.emit_native.specs.TermHelper as TH
 use Rattle.jit_arm64.specs.Block.{Walk, walked, in-front, emit-native, emit-term-helper, helped, step, instr-walk, walk, fetch, fetch-upper}
 use Rattle.jit_arm64.specs.Translate.{by-helper}
-use Rattle.translation.proofs.Calls.{Host, form-step, call-step, calls-run, scratch, fits, keeps, all-fit, all-keep, AllIn, Kept, calls-kept, is-true}
-use Rattle.translation.proofs.Instrs.{run-append, keep-append, fit-append, in-append, Fine, Does, Continues, Terminates, Leaves, Matches, Agrees, nothing}
+use Rattle.translation.proofs.Calls.{Host, call-step, calls-run, scratch, fits, all-fit, all-keep, AllIn, Kept, calls-kept, is-true}
+use Rattle.translation.proofs.Instrs.{run-append, fit-append, in-append, Fine, Matches, nothing}
 use Rattle.translation.proofs.Agree32.{agrees32}
 use Rattle.translation.proofs.Agree16.{agrees16}
 

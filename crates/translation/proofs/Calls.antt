@@ -2,25 +2,24 @@
 -- computes; and that their words do the same to the machine. Assumes nothing.
 use mathlib.Core.Path.{_≡_, refl, sym, ap, _∙_}
 use mathlib.Core.Bool.{Bool, true, false, cond, not, xor, _&&_, _||_, true≢false}
-use mathlib.Core.List.{List, [], _∷_, _++_, map, flatten}
+use mathlib.Core.List.{List, [], _∷_, flatten}
 use Prim.Native.Nat.{ℕ, zero, suc, _+_, _-_, _*_, _/_, _%_, _^_, _≤_, _<_}
-use native.Mathlib.Nat.{div-le-self, lt-of-le-of-lt, mod-lt, div-lt-iff-lt-mul, le-of-lt, zero-lt-suc}
+use native.Mathlib.Nat.{div-le-self, lt-of-le-of-lt, mod-lt, le-of-lt, zero-lt-suc}
 use native.Mathlib.Omega.{arith}
 use lib.Dec.{eqb, leb, ltb, T, ltb→lt}
 use lib.Bits.{and-lt, or-lt, xor-lt}
 use lib.Pow.{pow-pos}
 use lib.ListN.{length, getD, set, length-set}
-use borrow.Author.Tests.{leb-true, leb-false, le-leb, eq-eqb, ne-eqb, eqb-true, eqb-false}
-use Rattle.word.specs.Word.{wrap, sext, sign, magnitude, signed, asr, sdiv, mulh, sext128, upper}
-use Rattle.word.specs.Laws.{product-below}
+use borrow.Author.Tests.{leb-true, le-leb, eq-eqb, ne-eqb, eqb-true, eqb-false}
+use Rattle.word.specs.Word.{wrap, sext, sign, magnitude, signed, asr, sdiv, mulh, sext128}
+use Rattle.word.proofs.Laws.{product-below}
 use Rattle.le.specs.Le as Le
 use Rattle.a64.specs.declared.Op.{Op}
 use Rattle.a64.specs.declared.Op.the-variants.{Add, Sub, And, Orr, Eor, Lslv, Lsrv, Asrv, Mul, Smulh, Umulh, Udiv, Sdiv}
 use Rattle.a64.specs.declared.Form.{Form}
 use Rattle.a64.specs.declared.Form.the-variants.{DataProcessing, Ldr, Str, Movz, Movk, Cmp, Csel, Sxtw, AddSp, SubSp, Blr, Ret, Unreadable}
-use Rattle.a64.specs.Emitter.{constant}
 use Rattle.a64_run.specs.declared.state.Flags.{Flags}
-use Rattle.a64_run.specs.Exec.{State, reg, machine, opValue, compared, holds, address, reaches, exec, next}
+use Rattle.a64_run.specs.Exec.{State, machine, opValue, compared, holds, address, reaches, exec}
 use Rattle.a64_run.proofs.Straight.{Straight, straight-append, constant-goes}
 use Rattle.a64_run.proofs.Slots.{Apart, Slots, slot-stored}
 use Rattle.emit_native.specs.Calls.{Call, emit, mov-imm64, load, store, reg-off, forms, groups}

@@ -2,16 +2,15 @@
 use mathlib.Core.Path.{_≡_, refl, sym, ap, _∙_}
 use mathlib.Core.Bool.{Bool, true, false, cond, not, _&&_}
 use mathlib.Core.List.{List, [], _∷_, _++_}
-use Prim.Native.Nat.{ℕ, _+_, _-_, _*_, _/_, _%_, _^_, _≤_, _<_}
+use Prim.Native.Nat.{ℕ, _-_, _*_, _/_, _^_, _<_}
 use native.Mathlib.Omega.{arith}
-use lib.Bits.{bitAnd, and-high, or-zero-r}
+use lib.Bits.{bitAnd, and-high}
 use lib.Dec.{eqb, leb, ltb, T}
-use lib.ListN.{length, getD, set}
-use lib.Seq.{getD-set-other}
-use borrow.Author.Tests.{eqb-true, eqb-false, ne-eqb}
-use Rattle.word.specs.Word.{wrap, add}
+use lib.ListN.{getD, set}
+use borrow.Author.Tests.{eqb-true}
+use Rattle.word.specs.Word.{add}
 use Rattle.a64_run.specs.Exec.{opValue, compared, holds, holds-even}
-use Rattle.a64_run.specs.Flags.{z-law, c-law, lt-law}
+use Rattle.a64_run.proofs.Flags.{z-law, c-law, lt-law}
 use Rattle.rv64.specs.declared.alu.Alu.{Alu}
 use Rattle.rv64.specs.declared.alu.Cond.{Cond}
 use Rattle.rv64.specs.declared.decode.Instr.{Instr}
@@ -20,8 +19,8 @@ use Rattle.rv64.specs.Alu.{value, taken}
 use Rattle.rv64.specs.Execute.{read, write, exec}
 use Rattle.emit_native.specs.declared.EmitFlow.{EmitFlow}
 use Rattle.emit_native.specs.Isa.{C-EQ, C-NE, C-CS, C-CC, C-GE, C-LT, not-1}
-use Rattle.emit_native.specs.Calls.{Call, emit, mov-imm64, load, store, add-x, and-x, orr-x, cmp-x, csel-x, if-not-0, Emission, continue, terminate, none, behind, store-rd, then-store-rd}
-use Rattle.translation.proofs.Calls.{Host, form-step, call-step, calls-run, scratch, form-fits, written, fits, keeps, all-fit, all-keep, AllIn, Kept, and-l, and-r, is-true}
+use Rattle.emit_native.specs.Calls.{Call, emit, mov-imm64, load, store, add-x, and-x, cmp-x, csel-x, if-not-0, Emission, continue, terminate, none, behind, store-rd, then-store-rd}
+use Rattle.translation.proofs.Calls.{Host, form-step, call-step, calls-run, scratch, form-fits, written, fits, keeps, all-fit, all-keep, AllIn, Kept, and-l, and-r}
 use Rattle.translation.proofs.Alus.{body, slliw, srliw, sraiw, Computes, body-law, not-not, not-leb}
 
 -- ---- lists of calls, one behind the other

@@ -4,12 +4,11 @@ use mathlib.Core.Bool.{Bool, true, false, cond, xor}
 use Prim.Native.Nat.{ℕ, _+_, _-_, _*_, _/_, _%_, _^_, _≤_, _<_}
 use native.Mathlib.Nat.{div-add-mod', mul-add-mod-self-right, add-mul-mod-self-right, add-mul, mul-add, mul-comm, mul-assoc, mod-eq-of-lt, div-le-self, mod-le, mod-add-mod, add-mod-mod}
 use native.Mathlib.Omega.{arith}
-use lib.Dec.{leb}
 use borrow.Author.Tests.{leb-true, leb-false}
-use Rattle.word.specs.Word.{wrap, mul, sub, sign, magnitude, signed, sdiv, srem, mulhu, mulhsu}
-use Rattle.word.specs.Laws.{mulhsu-positive, mulhsu-negative}
+use Rattle.word.specs.Word.{mul, sign, magnitude, signed, sdiv, srem, mulhu, mulhsu}
+use Rattle.word.proofs.Laws.{mulhsu-positive, mulhsu-negative}
 use Rattle.a64_run.specs.Exec.{difference}
-use Rattle.a64_run.specs.Flags.{difference-sub}
+use Rattle.a64_run.proofs.Flags.{difference-sub}
 
 -- a factor may be taken modulo m
 mod-mul-mod : (a b m : ℕ) → a % m * b % m ≡ a * b % m

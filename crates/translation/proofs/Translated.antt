@@ -1,15 +1,13 @@
 -- Demand 3 for what translation answers. Assumes nothing.
-use mathlib.Core.Path.{_≡_, refl, sym, ap, _∙_, subst}
+use mathlib.Core.Path.{_≡_, refl, ap}
 use mathlib.Core.Bool.{Bool, true, false, cond, not, _||_, true≢false}
 use mathlib.Core.List.{List, [], _∷_, _++_}
-use mathlib.Core.Option.{Option, none, some}
-use Prim.Native.Nat.{ℕ, zero, suc, _+_, _-_, _*_, _/_, _%_, _^_, _≤_, _<_, min}
+use Prim.Native.Nat.{ℕ, _%_, _^_, _≤_, _<_}
 use native.Mathlib.Omega.{arith}
 use lib.Dec.{eqb, ltb}
 use lib.ListN.{length, take, drop}
 use borrow.Author.Tests.{eqb-true, eqb-false, ltb-false}
-use Rattle.le.specs.Laws.{Bytes}
-use Rattle.a64.specs.Emitter.{bytes}
+use Rattle.le.specs.Le.{Bytes}
 use Rattle.emit_native.specs.declared.Host.{Host}
 use Rattle.jit_arm64.specs.declared.Answer.{Answer}
 use Rattle.jit_arm64.specs.Block.{fetch, whole-walk}

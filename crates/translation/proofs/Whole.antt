@@ -1,20 +1,20 @@
 -- Demand 3 for the block of a walk. Assumes nothing.
 use mathlib.Core.Path.{_≡_, refl, sym, ap, _∙_, subst}
-use mathlib.Core.Bool.{Bool, true, false, cond, not, true≢false}
+use mathlib.Core.Bool.{Bool, true, false}
 use mathlib.Core.Logic.{_⊎_, inl, inr}
-use mathlib.Core.List.{List, [], _∷_, _++_, append-assoc, map, map-append, flatten}
+use mathlib.Core.List.{List, [], _∷_, _++_, append-assoc, map-append, flatten}
 use Prim.Native.Nat.{ℕ, zero, suc, _+_, _-_, _*_, _/_, _%_, _^_, _≤_, _<_, min}
 use native.Mathlib.Nat.{not-suc-le-zero, le-of-suc-le-suc}
 use native.Mathlib.Omega.{arith}
-use lib.Dec.{eqb, leb, ltb, T}
-use lib.ListN.{length, getD, set, drop, length-append, length-map}
-use borrow.Author.Tests.{eqb-true, eqb-false, ne-eqb, leb-true, leb-false, le-leb, lt-leb, ltb-true, ltb-false}
+use lib.Dec.{leb, ltb, T}
+use lib.ListN.{length, getD, length-append}
+use borrow.Author.Tests.{ne-eqb, leb-true, leb-false, le-leb, lt-leb, ltb-true, ltb-false}
 use Rattle.word.specs.Word.{wrap, add}
-use Rattle.le.specs.Le.{load, number}
-use Rattle.le.specs.Laws.{Bytes, load-lt}
+use Rattle.le.specs.Le.{Bytes, number}
+use Rattle.le.proofs.Laws.{load-lt}
 use Rattle.a64.specs.declared.Form.{Form}
 use Rattle.a64.specs.declared.Form.the-variants.{Ret}
-use Rattle.a64.specs.Forms.{encode, decode}
+use Rattle.a64.specs.Forms.{encode}
 use Rattle.a64.specs.Emitter.{encoded, bytes}
 use Rattle.a64.proofs.Coding.{decode-encode, encode-lt}
 use Rattle.a64.proofs.Emission.{length-encoded}
@@ -22,21 +22,21 @@ use Rattle.a64_run.specs.declared.run.End.{End}
 use Rattle.a64_run.specs.Exec.{State, reg, machine, exec}
 use Rattle.a64_run.specs.Run as A
 use Rattle.a64_run.proofs.Straight.{Straight, straight-run}
-use Rattle.a64_run.proofs.Slots.{Apart, Slots}
+use Rattle.a64_run.proofs.Slots.{Apart}
 use Rattle.rv64.specs.Run as R
 use Rattle.emit_native.specs.declared.Host as JH
 use Rattle.jit_arm64.specs.declared.block.Stop.{Stop}
-use Rattle.emit_native.specs.Calls.{Call, emit, mov-imm64, ret, forms, groups, reg-off, Emission}
+use Rattle.emit_native.specs.Calls.{Call, emit, mov-imm64, ret, groups, reg-off, Emission}
 use mathlib.Core.Option.{Option, none, some}
 use Rattle.emit_native.specs.declared.EmitFlow.{EmitFlow}
 use Rattle.emit_native.specs.Calls as JC
 use Rattle.jit_arm64.specs.Block.{Walk, size-of, helped, step, instr-walk, walk, end-calls, block-calls, whole-walk, max-steps}
 use Rattle.jit_arm64.specs.Translate.{by-helper, block-bytes}
 use Rattle.jit_arm64.proofs.Emitting.{forms-append}
-use Rattle.translation.specs.Demand3.{slot, place, Entry, Outside, Ends, Demand3}
+use Rattle.translation.specs.Demand3.{slot, place, Entry, Ends, Demand3}
 use Rattle.translation.proofs.Registers.{tab, tab-getD, getD-tab}
-use Rattle.translation.proofs.Calls.{Host, host, call-step, calls-run, scratch, fits, keeps, all-fit, all-keep, AllIn, Kept, calls-kept, real, Goes, calls-go}
-use Rattle.translation.proofs.Instrs.{run-append, keep-append, fit-append, in-append}
+use Rattle.translation.proofs.Calls.{Host, host, call-step, calls-run, scratch, fits, all-fit, all-keep, AllIn, Kept, calls-kept, real, Goes, calls-go}
+use Rattle.translation.proofs.Instrs.{run-append, fit-append, in-append}
 use Rattle.translation.proofs.Blocks.{next-calls, walk-calls, Walks, walk-walks}
 
 -- ---- words and bytes

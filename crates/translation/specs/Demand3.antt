@@ -6,8 +6,7 @@ use mathlib.Core.List.{List}
 use Prim.Native.Nat.{ℕ, _+_, _-_, _*_, _%_, _^_, _≤_, _<_}
 use lib.ListN.{length, getD}
 use Rattle.word.specs.Word.{wrap}
-use Rattle.le.specs.Le.{load}
-use Rattle.le.specs.Laws.{Bytes}
+use Rattle.le.specs.Le.{Bytes, load}
 use Rattle.a64_run.specs.declared.run.End.{End}
 use Rattle.a64_run.specs.Exec.{State, reg}
 use Rattle.a64_run.specs.Run as A

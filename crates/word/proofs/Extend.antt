@@ -8,7 +8,7 @@ use mathlib.Core.Bool.{Bool, true, false}
 use mathlib.Core.Path.{_≡_, refl, sym, ap, _∙_}
 use borrow.Author.Tests.{ltb-true, ltb-false}
 use Rattle.word.specs.Word.{sext, shl, asr}
-use Rattle.word.specs.Laws.{sext-low, sext-high, asr-positive, asr-negative}
+use Rattle.word.proofs.Laws.{sext-low, sext-high, asr-positive, asr-negative}
 
 -- j + 1 bits, shifted up by s and down again; r is the low bits
 module _ (x j s : ℕ) (e : j + 1 + s ≡ 64) where

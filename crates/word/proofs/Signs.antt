@@ -1,9 +1,8 @@
 -- Signs put on and taken off. Assumes nothing.
-use Prim.Native.Nat.{ℕ, _-_, _^_, _<_, _≤_}
+use Prim.Native.Nat.{ℕ, _-_, _^_, _<_}
 use native.Mathlib.Omega.{arith}
 use mathlib.Core.Bool.{Bool, true, false, cond}
 use mathlib.Core.Path.{_≡_, refl}
-use borrow.Author.Tests.{leb-true, leb-false}
 use Rattle.word.specs.Word.{sign, magnitude, signed}
 
 pub signed-zero : (s : Bool) → signed s 0 ≡ 0

@@ -1,6 +1,6 @@
 -- Registers of 64 bits as numbers below 2 ^ 64: the arithmetic that both manuals use (RISC-V Unprivileged ISA,
 -- chapters 'RV32I' and 'RV64I' and extension M; Arm Architecture Reference Manual, A64 data processing).
--- `Signed` says what each signed operation is on integers. Definitions only.
+-- proofs/Integers.antt shows what each signed operation is on integers. Definitions only.
 use mathlib.Core.Bool.{Bool, cond, xor}
 use Prim.Native.Nat.{ℕ, _+_, _-_, _*_, _/_, _%_, _^_}
 use lib.Bits.{bitAnd, bitOr, bitXor}
@@ -69,9 +69,6 @@ asr x s = cond (sign x) (complement (complement x / 2 ^ s)) (x / 2 ^ s)
 
 abbrev pub udiv : ℕ → ℕ → ℕ
 udiv x y = x / y
-
-abbrev pub urem : ℕ → ℕ → ℕ
-urem x y = x % y
 
 -- the signed value without its sign
 unfoldable pub magnitude : ℕ → ℕ

@@ -1,6 +1,6 @@
 // Arithmetic of 64-bit registers that the language lacks. Each function equals the definition of its name.
 ghost use mathlib.Core.Path.{_≡_};
-ghost use Prim.Native.Nat.{_+_, _*_, _<_, _≤_, _^_};
+ghost use Prim.Native.Nat.{_*_, _<_, _≤_, _^_};
 ghost use Rattle.word.specs.Word as W;
 
 // x - y, modulo 2^64.

@@ -4,7 +4,7 @@ use Prim.Native.Nat.{_≤_, _-_, min}
 use mathlib.Core.Path.{_≡_, sym, _∙_}
 use native.Mathlib.Numerals.{add-one}
 use lib.ListN.{length, take, length-take}
-use Rattle.a64.specs.Emitter.{max-words, instr-words}
+use Rattle.a64.specs.Parts.{max-words, instr-words}
 use Rattle.a64.proofs.Emission.{kept, pasted}
 use lib.Seq.{paste, paste-zero, paste-suc, length-paste}
 use Rattle.a64.proofs.append_at.Statement.{statement}

@@ -2,7 +2,7 @@ use borrow.Author.Needs.{needs}
 use native.Mathlib.Omega.{arith}
 use mathlib.Core.Path.{sym}
 use mathlib.Core.List.{[], _∷_}
-use Rattle.a64.specs.Emitter.{instr-words}
+use Rattle.a64.specs.Parts.{instr-words}
 use Rattle.a64.proofs.Emission.{stored, kept}
 use Rattle.a64.proofs.emit_at.Statement.{statement}
 use Rattle.a64.proofs.emit_at.Tie as tie

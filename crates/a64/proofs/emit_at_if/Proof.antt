@@ -1,6 +1,6 @@
 use borrow.Author.Needs.{needs}
 use mathlib.Core.Path.{sym}
-use Rattle.a64.specs.Emitter.{emitted-if}
+use Rattle.a64.specs.Parts.{emitted-if}
 use Rattle.a64.proofs.Emission.{emitted-none}
 use Rattle.a64.proofs.emit_at_if.Statement.{statement}
 use Rattle.a64.proofs.emit_at_if.Tie as tie

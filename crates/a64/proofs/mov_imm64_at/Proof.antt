@@ -3,7 +3,8 @@ use native.Mathlib.Omega.{arith}
 use Prim.Native.Nat.{_+_, _≤_}
 use mathlib.Core.Path.{_≡_, sym}
 use lib.ListN.{length, take, length-take}
-use Rattle.a64.specs.Emitter.{instr-words, constant, encoded}
+use Rattle.a64.specs.Emitter.{constant, encoded}
+use Rattle.a64.specs.Parts.{instr-words}
 use Rattle.a64.proofs.Emission.{kept, length-encoded, constant-one, constant-length}
 use Rattle.a64.proofs.mov_imm64_at.Statement.{statement}
 use Rattle.a64.proofs.mov_imm64_at.Tie as tie

@@ -1,7 +1,5 @@
 use borrow.Author.Needs.{needs}
-use Prim.Native.Nat.{ℕ}
 use mathlib.Core.Path.{ap}
-use mathlib.Core.List.{List}
 use lib.ListN.{length}
 use Rattle.a64.proofs.Emission.{upper-none, upper-some}
 use Rattle.a64.proofs.upper_count.Statement.{statement}

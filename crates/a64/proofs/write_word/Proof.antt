@@ -1,7 +1,7 @@
 use Prim.Native.Nat.{_+_, suc}
 use mathlib.Core.Path.{_≡_}
 use native.Mathlib.Numerals.{add-one}
-use lib.ListN.{length, length-set}
+use lib.ListN.{length-set}
 use native.Mathlib.Omega.{arith}
 use borrow.Author.Needs.{needs}
 use Rattle.a64.proofs.write_word.Statement.{statement}

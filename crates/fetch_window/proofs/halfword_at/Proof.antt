@@ -2,7 +2,7 @@ use Prim.Native.Nat.{_+_}
 use native.Mathlib.Omega.{arith}
 use lib.ListN.{length}
 use borrow.Author.Tests.{le-leb, lt-leb}
-use Rattle.fetch_window.specs.Window.{halfword-at}
+use Rattle.fetch_window.specs.Parts.{halfword-at}
 use borrow.Author.Needs.{needs}
 use Rattle.fetch_window.proofs.halfword_at.Statement.{statement}
 use Rattle.fetch_window.proofs.halfword_at.Tie as tie

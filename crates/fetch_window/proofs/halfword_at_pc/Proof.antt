@@ -1,6 +1,6 @@
 use mathlib.Core.Path.{ap, _∙_}
 use borrow.Author.Needs.{needs}
-use Rattle.fetch_window.specs.Window.{halfword-at}
+use Rattle.fetch_window.specs.Parts.{halfword-at}
 use Rattle.fetch_window.proofs.halfword_at_pc.Statement.{statement}
 use Rattle.fetch_window.proofs.halfword_at_pc.Tie as tie
 

@@ -1,6 +1,5 @@
 use borrow.Author.Needs.{needs}
-use native.Mathlib.Omega.{arith}
-use mathlib.Core.Path.{_≡_, _∙_}
+use mathlib.Core.Path.{_∙_}
 use Rattle.jit_arm64.specs.Translate.{host}
 use Rattle.jit_arm64.proofs.Translating.{no-slots, no-multiple, too-far, near}
 use Rattle.jit_arm64.proofs.translate.Statement.{statement}

@@ -1,7 +1,6 @@
 use borrow.Author.Needs.{needs}
 use native.Mathlib.Omega.{arith}
-use mathlib.Core.Path.{_≡_, _∙_}
-use lib.ListN.{length}
+use mathlib.Core.Path.{_∙_}
 use Rattle.jit_arm64.proofs.Translating.{no-limit, odd, by-first, too-short, is-accepted, few-bytes, at-most}
 use Rattle.jit_arm64.proofs.translate_for.Statement.{statement}
 use Rattle.jit_arm64.proofs.translate_for.Tie as tie

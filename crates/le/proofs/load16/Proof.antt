@@ -1,7 +1,7 @@
 use borrow.Author.Needs.{needs}
 use native.Mathlib.Omega.{arith}
 use Prim.Native.Nat.{_+_}
-use Rattle.le.specs.Laws.{load-add, load-byte}
+use Rattle.le.proofs.Laws.{load-add, load-byte}
 use Rattle.le.proofs.load16.Statement.{statement}
 use Rattle.le.proofs.load16.Tie as tie
 

@@ -1,6 +1,6 @@
 use borrow.Author.Needs.{needs}
 use native.Mathlib.Omega.{arith}
-use Rattle.le.specs.Laws.{load-add}
+use Rattle.le.proofs.Laws.{load-add}
 use Rattle.le.proofs.load32.Statement.{statement}
 use Rattle.le.proofs.load32.Tie as tie
 

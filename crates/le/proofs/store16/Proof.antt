@@ -2,7 +2,7 @@ use borrow.Author.Needs.{needs}
 use native.Mathlib.Omega.{arith}
 use Prim.Native.Nat.{_+_, _/_, _%_}
 use lib.ListN.{set, length-set}
-use Rattle.le.specs.Laws.{store-add, store-byte}
+use Rattle.le.proofs.Laws.{store-add, store-byte}
 use Rattle.le.proofs.store16.Statement.{statement}
 use Rattle.le.proofs.store16.Tie as tie
 

@@ -1,7 +1,6 @@
 use borrow.Author.Needs.{needs}
 use native.Mathlib.Omega.{arith}
-use mathlib.Core.Path.{_∙_, ap, sym}
-use Rattle.le.specs.Laws.{Bytes}
+use Rattle.le.specs.Le.{Bytes}
 use Rattle.jit_arm64.specs.Translate.{host}
 use Rattle.translation.proofs.Translated.{translated}
 use Rattle.translation.proofs.translate.Statement.{statement}

@@ -1,6 +1,6 @@
 use borrow.Author.Needs.{needs}
 use mathlib.Core.Path.{sym, _∙_}
-use Rattle.word.specs.Laws.{mulh-positive, mulh-negative}
+use Rattle.word.proofs.Laws.{mulh-positive, mulh-negative}
 use Rattle.word.proofs.mulh.Statement.{statement}
 use Rattle.word.proofs.mulh.Tie as tie
 

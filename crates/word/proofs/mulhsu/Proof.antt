@@ -1,6 +1,6 @@
 use borrow.Author.Needs.{needs}
 use mathlib.Core.Path.{sym, _∙_}
-use Rattle.word.specs.Laws.{mulhsu-positive, mulhsu-negative}
+use Rattle.word.proofs.Laws.{mulhsu-positive, mulhsu-negative}
 use Rattle.word.proofs.mulhsu.Statement.{statement}
 use Rattle.word.proofs.mulhsu.Tie as tie
 

@@ -1,5 +1,5 @@
 use borrow.Author.Needs.{needs}
-use mathlib.Core.Path.{sym, _∙_}
+use mathlib.Core.Path.{sym}
 use native.Mathlib.Nat.{div-zero}
 use Rattle.word.proofs.Signs.{signed-zero}
 use mathlib.Core.Bool.{xor}

@@ -1,5 +1,4 @@
 use borrow.Author.Needs.{needs}
-use native.Mathlib.Omega.{arith}
 use Rattle.word.specs.Word.{slt}
 use Rattle.word.proofs.slt.Statement.{statement}
 use Rattle.word.proofs.slt.Tie as tie

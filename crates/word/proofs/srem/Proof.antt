@@ -1,5 +1,5 @@
 use borrow.Author.Needs.{needs}
-use mathlib.Core.Path.{sym, _∙_}
+use mathlib.Core.Path.{sym}
 use native.Mathlib.Nat.{mod-zero}
 use Rattle.word.proofs.Signs.{signed-magnitude}
 use Rattle.word.specs.Word.{srem}

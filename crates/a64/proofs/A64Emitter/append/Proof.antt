@@ -1,5 +1,5 @@
 use borrow.Author.Needs.{needs}
-use Rattle.a64.specs.Emitter.{held, block-words}
+use Rattle.a64.specs.Parts.{held, block-words}
 use Rattle.a64.proofs.A64Emitter.append.Statement.{statement}
 use Rattle.a64.proofs.A64Emitter.append.Tie as tie
 

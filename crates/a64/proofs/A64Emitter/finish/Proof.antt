@@ -4,7 +4,8 @@ use Prim.Native.Nat.{_≤_, _-_, _*_}
 use mathlib.Core.Path.{_≡_, _∙_}
 use mathlib.Core.List.{_++_}
 use lib.ListN.{length, take, drop}
-use Rattle.a64.specs.Emitter.{max-words, block-words, bytes}
+use Rattle.a64.specs.Emitter.{bytes}
+use Rattle.a64.specs.Parts.{max-words, block-words}
 use Rattle.a64.proofs.Emission.{length-written, bytes-more, all-written, none-written}
 use Rattle.a64.proofs.A64Emitter.finish.Statement.{statement}
 use Rattle.a64.proofs.A64Emitter.finish.Tie as tie

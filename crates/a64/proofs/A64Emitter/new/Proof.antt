@@ -1,5 +1,5 @@
 use borrow.Author.Needs.{needs}
-use Rattle.a64.specs.Emitter.{block-words}
+use Rattle.a64.specs.Parts.{block-words}
 use Rattle.a64.proofs.A64Emitter.new.Statement.{statement}
 use Rattle.a64.proofs.A64Emitter.new.Tie as tie
 

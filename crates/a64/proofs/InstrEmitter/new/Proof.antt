@@ -1,5 +1,5 @@
 use borrow.Author.Needs.{needs}
-use Rattle.a64.specs.Emitter.{held}
+use Rattle.a64.specs.Parts.{held}
 use Rattle.a64.proofs.InstrEmitter.new.Statement.{statement}
 use Rattle.a64.proofs.InstrEmitter.new.Tie as tie
 

@@ -3,7 +3,7 @@ use mathlib.Core.Bool.{xor}
 use mathlib.Core.Path.{_≡_, sym, _∙_}
 use Prim.Native.Nat.{_<_, _^_}
 use Rattle.a64_run.specs.Exec.{compared, difference}
-use Rattle.a64_run.specs.Flags.{difference-sub, z-law, c-law, v-law}
+use Rattle.a64_run.proofs.Flags.{difference-sub, z-law, c-law, v-law}
 use Rattle.a64_run.proofs.exec.compare.Statement.{statement}
 use Rattle.a64_run.proofs.exec.compare.Tie as tie
 

@@ -1,6 +1,6 @@
 use borrow.Author.Needs.{needs}
 use lib.ListN.{length-set}
-use mathlib.Core.Path.{refl, _∙_}
+use mathlib.Core.Path.{refl}
 use Rattle.a64_run.specs.Exec.{exec}
 use Rattle.a64_run.proofs.exec.load.Statement.{statement}
 use Rattle.a64_run.proofs.exec.load.Tie as tie

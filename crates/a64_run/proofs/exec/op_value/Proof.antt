@@ -1,6 +1,6 @@
 use mathlib.Core.Path.{sym, _∙_}
 use Rattle.a64_run.specs.Exec.{opValue}
-use Rattle.a64_run.specs.Flags.{difference-sub}
+use Rattle.a64_run.proofs.Flags.{difference-sub}
 use borrow.Author.Needs.{needs}
 use Rattle.a64_run.proofs.exec.op_value.Statement.{statement}
 use Rattle.a64_run.proofs.exec.op_value.Tie as tie

@@ -1,7 +1,7 @@
 use borrow.Author.Needs.{needs}
 use mathlib.Core.Path.{refl, ap, _∙_}
 use lib.ListN.{length}
-use Rattle.le.specs.Laws.{length-store}
+use Rattle.le.proofs.Laws.{length-store}
 use Rattle.a64_run.specs.Exec.{exec}
 use Rattle.a64_run.proofs.exec.store.Statement.{statement}
 use Rattle.a64_run.proofs.exec.store.Tie as tie

@@ -1,12 +1,11 @@
 use borrow.Author.Needs.{needs}
 use native.Mathlib.Nat.{add-assoc}
 use native.Mathlib.Numerals.{add-one}
-use native.Mathlib.Omega.{arith}
 use Prim.Native.Nat.{_-_}
 use lib.ListN.{length}
 use Rattle.a64_run.specs.Exec.{machine}
 use Rattle.a64_run.specs.Run.{words, run, onward}
-use Rattle.a64_run.specs.RunLaws.{Running, start, off-end, spent, ended, onto}
+use Rattle.a64_run.proofs.RunLaws.{Running, start, off-end, spent, ended, onto}
 use Rattle.a64_run.proofs.run.run_words.Statement.{statement}
 use Rattle.a64_run.proofs.run.run_words.Tie as tie
 

@@ -1,15 +1,15 @@
 use Prim.Native.Nat.{ℕ}
-use mathlib.Core.Path.{_≡_, refl, sym}
-use mathlib.Core.Bool.{Bool, true, false, not}
+use mathlib.Core.Path.{_≡_, refl}
 use mathlib.Core.List.{List}
 use lib.Dec.{eqb}
 use borrow.Author.Needs.{needs}
 use Rattle.a64.specs.Forms.{encode}
-use Rattle.a64.specs.Emitter.{emitted, emitted-if, emitted-all}
+use Rattle.a64.specs.Parts.{emitted, emitted-if, emitted-all}
 use Rattle.a64.proofs.Emission.{emitted-none}
 use Rattle.emit_native.specs.declared.EmitFlow.{EmitFlow}
 use Rattle.emit_native.specs.declared.EmitFlow.the-variants.{Continue, Terminate, None}
-use Rattle.emit_native.specs.Calls.{groups, reg-off, str-x, stores, store-rd}
+use Rattle.emit_native.specs.Calls.{groups, reg-off, str-x, store-rd}
+use Rattle.emit_native.specs.Parts.{stores}
 use Rattle.emit_native.proofs.Size.{by}
 use Rattle.emit_native.proofs.calls.store_rd.Statement.{statement}
 use Rattle.emit_native.proofs.calls.store_rd.Tie as tie

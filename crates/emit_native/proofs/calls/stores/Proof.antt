@@ -1,6 +1,6 @@
 use mathlib.Core.Path.{refl}
 use borrow.Author.Needs.{needs}
-use Rattle.emit_native.specs.Calls.{stores}
+use Rattle.emit_native.specs.Parts.{stores}
 use Rattle.emit_native.proofs.calls.stores.Statement.{statement}
 use Rattle.emit_native.proofs.calls.stores.Tie as tie
 

@@ -2,12 +2,11 @@ use Rattle.emit_native.specs.Instr32.{jalr}
 use Rattle.emit_native.specs.Calls.{add-x, and-x, load, store, emit, mov-imm64, if-not-0, terminate}
 use Rattle.emit_native.proofs.Decoding.{imm-i-is}
 use Rattle.emit_native.proofs.Chains.{first}
-use mathlib.Core.List.{[], _∷_, map-append}
-use Rattle.a64.proofs.Emission.{emitted-all-append}
+use mathlib.Core.List.{[], _∷_}
 use Rattle.word.specs.Word.{add}
 use Rattle.emit_native.specs.Isa.{not-1}
 use Rattle.emit_native.specs.Decode.{imm-i}
-use Rattle.a64.specs.Emitter.{held}
+use Rattle.a64.specs.Parts.{held}
 use borrow.Author.Needs.{needs}
 use Rattle.emit_native.proofs.instr32.emit_jalr.Statement.{statement}
 use Rattle.emit_native.proofs.instr32.emit_jalr.Tie as tie

@@ -1,5 +1,5 @@
 use borrow.Author.Tests.{ne-eqb}
-use Rattle.emit_native.specs.Instr32.{op-arm, op}
+use Rattle.emit_native.specs.Instr32.{op-arm}
 use Rattle.emit_native.specs.Calls.{sdiv-x, udiv-x}
 use borrow.Author.Needs.{needs}
 use Rattle.emit_native.proofs.op.emit_op_muldiv.Statement.{statement}

@@ -1,6 +1,5 @@
 use borrow.Author.Tests.{ne-eqb}
 use mathlib.Core.Path.{refl}
-use borrow.Author.Needs.{needs}
 use Rattle.emit_native.proofs.term_helper.memory_funct3.Statement.{statement}
 use Rattle.emit_native.proofs.term_helper.memory_funct3.Tie as tie
 

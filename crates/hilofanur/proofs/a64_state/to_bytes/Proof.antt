@@ -1,7 +1,7 @@
 use native.Mathlib.Omega.{arith}
 use mathlib.Core.Path.{_≡_}
 use lib.ListN.{length}
-use Rattle.hilofanur.specs.Bytes.{two-more}
+use Rattle.hilofanur.proofs.Laws.{two-more}
 use borrow.Author.Needs.{needs}
 use Rattle.hilofanur.proofs.a64_state.to_bytes.Statement.{statement}
 use Rattle.hilofanur.proofs.a64_state.to_bytes.Tie as tie

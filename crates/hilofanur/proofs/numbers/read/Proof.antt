@@ -3,8 +3,9 @@ use borrow.Author.Needs.{needs}
 use Prim.Native.Nat.{_≤_, _-_, _*_}
 use mathlib.Core.Path.{_≡_, _∙_, refl, sym}
 use lib.Seq.{take-all}
-use lib.ListN.{length, length-set, take}
-use Rattle.hilofanur.specs.Bytes.{numbers, read-more}
+use lib.ListN.{length, take}
+use Rattle.hilofanur.specs.Bytes.{numbers}
+use Rattle.hilofanur.proofs.Laws.{read-more}
 use Rattle.hilofanur.proofs.numbers.read.Statement.{statement}
 use Rattle.hilofanur.proofs.numbers.read.Tie as tie
 

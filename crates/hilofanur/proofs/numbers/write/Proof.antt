@@ -1,10 +1,12 @@
 use native.Mathlib.Omega.{arith}
 use borrow.Author.Needs.{needs}
 use Prim.Native.Nat.{_≤_, _-_, _*_}
-use mathlib.Core.Path.{_≡_, _∙_, refl, sym}
+use mathlib.Core.Path.{_≡_, _∙_, refl}
 use lib.Seq.{take-all}
-use lib.ListN.{length, length-set, take}
-use Rattle.hilofanur.specs.Bytes.{bytes-of, over, write-more}
+use lib.ListN.{length, take}
+use Rattle.hilofanur.specs.Bytes.{bytes-of}
+use Rattle.hilofanur.specs.Parts.{over}
+use Rattle.hilofanur.proofs.Laws.{write-more}
 use Rattle.hilofanur.proofs.numbers.write.Statement.{statement}
 use Rattle.hilofanur.proofs.numbers.write.Tie as tie
 

@@ -1,7 +1,7 @@
 use native.Mathlib.Omega.{arith}
 use mathlib.Core.Path.{_≡_, _∙_}
 use lib.ListN.{length}
-use Rattle.hilofanur.specs.Bytes.{over-all}
+use Rattle.hilofanur.proofs.Laws.{over-all}
 use borrow.Author.Needs.{needs}
 use Rattle.hilofanur.proofs.rv64_hart.to_bytes.Statement.{statement}
 use Rattle.hilofanur.proofs.rv64_hart.to_bytes.Tie as tie

@@ -1,5 +1,5 @@
 use borrow.Author.Tests.{ne-eqb}
-use Rattle.isa.specs.Classes.{numbered}
+use Rattle.isa.specs.Parts.{numbered}
 use Rattle.isa.proofs.classes.numbered_class.Statement.{statement}
 use Rattle.isa.proofs.classes.numbered_class.Tie as tie
 

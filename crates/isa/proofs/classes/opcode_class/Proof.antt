@@ -1,13 +1,14 @@
 -- The table's rule, computed once over the whole table: the class at each number below 128 is that of the definition.
 use borrow.Author.Needs.{needs}
 use mathlib.Core.List.{List, [], _∷_, map}
-use mathlib.Core.Path.{_≡_, refl, sym, ap, _∙_}
+use mathlib.Core.Path.{_≡_, refl, _∙_}
 use Prim.Native.Nat.{ℕ, zero, suc, _+_, _%_, _<_}
 use native.Mathlib.Omega.{arith}
 use native.Mathlib.Nat.{add-zero, zero-add, add-suc, suc-add, le-of-suc-le-suc, not-suc-le-zero}
-use lib.ListN.{length, getD}
+use lib.ListN.{getD}
 use Rattle.isa.specs.declared.classes.Class.{Class}
-use Rattle.isa.specs.Classes.{classOf, numbered}
+use Rattle.isa.specs.Classes.{classOf}
+use Rattle.isa.specs.Parts.{numbered}
 use Rattle.isa.proofs.classes.opcode_class.Statement.{statement}
 use Rattle.isa.proofs.classes.opcode_class.Tie as tie
 

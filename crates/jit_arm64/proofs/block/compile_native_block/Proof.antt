@@ -1,9 +1,8 @@
 use native.Mathlib.Omega.{arith}
 use borrow.Author.Needs.{needs}
 use Prim.Native.Nat.{_-_}
-use mathlib.Core.Path.{_≡_, sym, _∙_}
 use mathlib.Core.Logic.{⊎-elim}
-use Rattle.a64.specs.Emitter.{held, block-words}
+use Rattle.a64.specs.Parts.{held, block-words}
 use Rattle.jit_arm64.specs.Block.{walk, whole-walk}
 use Rattle.jit_arm64.proofs.Flows.{goes-on, not-terminate}
 use Rattle.jit_arm64.proofs.Walking.{Walking, AtEnd, begin, at-limit, not-fetched, size-4, on, by-end, by-helper, uncovered}

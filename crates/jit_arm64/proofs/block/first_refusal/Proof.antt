@@ -1,6 +1,6 @@
 use native.Mathlib.Omega.{arith}
 use borrow.Author.Needs.{needs}
-use mathlib.Core.Path.{_≡_, refl, sym, _∙_}
+use mathlib.Core.Path.{refl, sym, _∙_}
 use Rattle.jit_arm64.specs.Block.{emit-term-helper}
 use Rattle.jit_arm64.specs.Translate.{is-missing, neither, is-uncovered}
 use Rattle.jit_arm64.proofs.Fetching.{is-none, is-some, first-at}

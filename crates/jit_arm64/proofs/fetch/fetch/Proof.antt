@@ -1,10 +1,10 @@
-use Prim.Native.Nat.{ℕ, _+_, _%_}
+use Prim.Native.Nat.{_+_, _%_}
 use native.Mathlib.Omega.{arith}
-use mathlib.Core.Path.{_≡_, sym, _∙_}
+use mathlib.Core.Path.{sym, _∙_}
 use lib.ListN.{length}
 use borrow.Author.Needs.{needs}
 use borrow.Author.Tests.{le-leb, lt-leb, eq-eqb, ne-eqb}
-use Rattle.fetch_window.specs.Window.{index}
+use Rattle.fetch_window.specs.Parts.{index}
 use Rattle.fetch_window.proofs.Reading.{found, missing}
 use Rattle.jit_arm64.specs.Block.{fetch}
 use Rattle.jit_arm64.proofs.Fetching.{none-found, half-found}

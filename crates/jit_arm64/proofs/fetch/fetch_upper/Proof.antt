@@ -1,11 +1,11 @@
-use Prim.Native.Nat.{ℕ, _+_, _^_, _<_}
+use Prim.Native.Nat.{_+_}
 use native.Mathlib.Omega.{arith}
-use mathlib.Core.Path.{_≡_, sym, ap, _∙_}
+use mathlib.Core.Path.{_≡_, sym, _∙_}
 use lib.ListN.{length}
 use borrow.Author.Needs.{needs}
 use borrow.Author.Tests.{le-leb, lt-leb, eqb-true}
 use Rattle.word.specs.Word.{add}
-use Rattle.fetch_window.specs.Window.{index, halfword-at}
+use Rattle.fetch_window.specs.Parts.{index}
 use Rattle.fetch_window.proofs.Reading.{found, missing, index-next}
 use Rattle.jit_arm64.specs.Block.{fetch-upper}
 use Rattle.jit_arm64.proofs.Fetching.{none-found, word-found}

@@ -1,6 +1,5 @@
 use mathlib.Core.Path.{refl}
-use borrow.Author.Needs.{needs}
-use Rattle.jit_arm64.specs.Block.{fetched}
+use Rattle.jit_arm64.specs.Parts.{fetched}
 use Rattle.jit_arm64.proofs.fetch.missing.Statement.{statement}
 use Rattle.jit_arm64.proofs.fetch.missing.Tie as tie
 

@@ -1,4 +1,4 @@
-use borrow.Author.Tests.{eq-eqb, ne-eqb, lt-ltb, le-ltb}
+use borrow.Author.Tests.{eq-eqb, ne-eqb}
 use Rattle.rv64.proofs.alu.overflows.Statement.{statement}
 use Rattle.rv64.proofs.alu.overflows.Tie as tie
 

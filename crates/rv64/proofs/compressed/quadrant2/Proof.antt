@@ -3,7 +3,7 @@ use mathlib.Core.Path.{refl}
 use Rattle.rv64.proofs.Tables.{missed}
 use Rattle.rv64.proofs.Steps as T
 use Rattle.rv64.specs.Alu as N
-use Rattle.rv64.specs.Step as S
+use Rattle.rv64.specs.Parts as S
 use Rattle.rv64.specs.Execute as X
 use Rattle.rv64.specs.Compressed as C
 use borrow.Author.Needs.{needs}

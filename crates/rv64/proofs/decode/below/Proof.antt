@@ -1,5 +1,5 @@
 use borrow.Author.Tests.{lt-ltb, le-ltb}
-use Rattle.rv64.specs.Step as S
+use Rattle.rv64.specs.Parts as S
 use Rattle.rv64.proofs.decode.below.Statement.{statement}
 use Rattle.rv64.proofs.decode.below.Tie as tie
 

@@ -1,5 +1,5 @@
 use Rattle.rv64.proofs.Tables.{missed}
-use Rattle.rv64.specs.Step as S
+use Rattle.rv64.specs.Parts as S
 use Rattle.rv64.specs.Decode as D
 use Rattle.rv64.specs.Alu as N
 use Rattle.rv64.specs.declared.alu.Cond.{Cond}

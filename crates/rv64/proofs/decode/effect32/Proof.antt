@@ -1,7 +1,7 @@
 use native.Mathlib.Omega.{arith}
 use Rattle.isa.specs.Classes.{classOf}
 use Rattle.rv64.proofs.Steps as T
-use Rattle.rv64.specs.Step as S
+use Rattle.rv64.specs.Parts as S
 use Rattle.rv64.specs.Execute as X
 use Rattle.rv64.specs.Decode as D
 use borrow.Author.Needs.{needs}

@@ -1,6 +1,6 @@
 use Rattle.rv64.specs.declared.execute.Effect.{Effect}
 use Rattle.rv64.proofs.Tables.{missed}
-use Rattle.rv64.specs.Step as S
+use Rattle.rv64.specs.Parts as S
 use borrow.Author.Needs.{needs}
 use Rattle.rv64.proofs.decode.other.Statement.{statement}
 use Rattle.rv64.proofs.decode.other.Tie as tie

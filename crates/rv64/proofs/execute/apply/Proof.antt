@@ -1,5 +1,5 @@
 use mathlib.Core.Path.{refl}
-use Rattle.rv64.specs.Step as S
+use Rattle.rv64.specs.Parts as S
 use borrow.Author.Needs.{needs}
 use Rattle.rv64.proofs.execute.apply.Statement.{statement}
 use Rattle.rv64.proofs.execute.apply.Tie as tie

@@ -1,6 +1,6 @@
 use borrow.Author.Tests.{eq-eqb, ne-eqb, lt-ltb, le-ltb}
 use lib.ListN.{length-drop}
-use Rattle.rv64.specs.Step.{encoding}
+use Rattle.rv64.specs.Parts.{encoding}
 use Rattle.rv64.proofs.Fetching.{at-front}
 use borrow.Author.Needs.{needs}
 use Rattle.rv64.proofs.run.fetch.Statement.{statement}

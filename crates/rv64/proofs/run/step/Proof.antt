@@ -1,5 +1,5 @@
 use mathlib.Core.Path.{refl}
-use Rattle.rv64.specs.Step.{stepped, after}
+use Rattle.rv64.specs.Parts.{stepped, after}
 use Rattle.rv64.proofs.Fetching.{fetched, decoded}
 use borrow.Author.Needs.{needs}
 use Rattle.rv64.proofs.run.step.Statement.{statement}

@@ -1,10 +1,10 @@
 -- Worked examples of the ISA manual and of document 01, by computation.
-use mathlib.Core.Bool.{Bool, true, false, xor}
+use mathlib.Core.Bool.{true, false, xor}
 use mathlib.Core.Path.{_≡_, refl}
-use mathlib.Core.List.{List, [], _∷_, _++_}
+use mathlib.Core.List.{List, [], _∷_}
 use Prim.Native.Nat.{ℕ, zero, suc, _-_, _^_}
 use lib.ListN.{replicate, set}
-use Rattle.word.specs.Word.{slt, asr, sdiv, srem, magnitude, signed, mulh, mulhsu, sext128}
+use Rattle.word.specs.Word.{sdiv, srem, magnitude, signed, mulh, mulhsu, sext128}
 use Rattle.isa.specs.Classes.{classOf}
 use Rattle.le.specs.Le.{load}
 use Rattle.rv64.specs.declared.alu.Alu.{Alu}

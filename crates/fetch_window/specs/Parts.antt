@@ -1,3 +1,4 @@
+-- What the functions of this crate promise one another; no operation's contract reaches it.
 -- The fetch window. Document 01, Translate: "guest bytes (little-endian halfwords, the first at the start PC; a lone last
 -- byte is no halfword)"; rule 1: "PC sums pass from the top of 64 bits to zero".
 use Prim.Native.Nat.{ℕ, _+_}

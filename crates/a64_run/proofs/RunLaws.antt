@@ -1,9 +1,7 @@
 -- Laws of `run`, and what holds at word i of a run: what is left of it ends as the whole does. Assumes nothing.
-use mathlib.Core.Path.{_≡_, refl, sym, ap, _∙_}
+use mathlib.Core.Path.{_≡_, refl, sym, _∙_}
 use mathlib.Core.List.{List, [], _∷_}
-use Prim.Native.Nat.{ℕ, zero, suc, _+_, _-_, _*_, _/_, _^_, _≤_, _<_}
-use native.Mathlib.Nat.{le-of-suc-le-suc}
-use native.Mathlib.Numerals.{add-one}
+use Prim.Native.Nat.{ℕ, zero, suc, _+_, _-_, _*_, _/_, _≤_, _<_}
 use native.Mathlib.Omega.{arith}
 use lib.ListN.{length, drop}
 use lib.Seq.{drop-nil}
@@ -13,10 +11,11 @@ use Rattle.a64_run.specs.declared.state.Flags.{Flags}
 use Rattle.a64_run.specs.declared.exec.Outcome.{Outcome}
 use Rattle.a64_run.specs.declared.exec.Stepped.{Stepped}
 use Rattle.a64_run.specs.declared.run.End.{End}
-use Rattle.a64_run.specs.Exec.{State, machine, After, after, exec, Executed}
+use Rattle.a64_run.specs.Exec.{State, machine, after, exec}
+use Rattle.a64_run.specs.Parts.{Executed}
 use Rattle.a64_run.specs.Run.{words, Ran, ran, onward, run}
 
--- word i of a block, and the words behind it
+-- word i of a block, and the words after it
 pub words-at : (bs : List ℕ) (i : ℕ) → 4 * i + 4 ≤ length bs → drop i (words bs) ≡ load 4 bs (4 * i) ∷ drop (suc i) (words bs)
 unfolding words load number
 words-at (a ∷ b ∷ c ∷ d ∷ bs) zero h = refl

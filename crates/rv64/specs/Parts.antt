@@ -1,4 +1,5 @@
--- The stepper's parts, each by the definitions of what an instruction does. Definitions only.
+-- What the functions of this crate promise one another; no operation's contract reaches it.
+-- Each is by the definitions of what an instruction does.
 use mathlib.Core.Bool.{Bool, cond, not}
 use mathlib.Core.Path.{_≡_}
 use mathlib.Core.List.{List, [], _∷_}
@@ -29,7 +30,7 @@ use Rattle.rv64.specs.Run.{halfword, word, hart}
 abbrev pub Does : Step → Flow → List ℕ → Type 0
 Does s flow x = (flow ≡ s .flow) × (x ≡ s .x)
 
--- an effect on the registers x; pc: the address behind the instruction
+-- an effect on the registers x; pc: the address after the instruction
 unfoldable pub applied : Effect → ℕ → List ℕ → Step
 applied (Effect.Set rd v) pc x = next (write x rd v) pc
 applied (Effect.Link rd to) pc x = X.ended (write x rd pc) to

@@ -5,13 +5,13 @@ use mathlib.Core.Path.{_≡_, refl, sym, ap, ap₂, _∙_}
 use Prim.Native.Nat.{ℕ, zero, suc, _+_, _-_, _*_, _/_, _%_, _^_, _≤_, _<_}
 use native.Mathlib.Omega.{arith}
 use native.Mathlib.Nat.{div-le-self, mod-le, le-trans, lt-of-le-of-lt, mul-le-mul-left, div-mul-le-self, div-one, mod-lt, mul-comm, le-of-lt, add-mul, mul-add, add-assoc, add-comm, add-left-comm, mod-add-mod}
-use lib.Dec.{ltb, leb}
+use lib.Dec.{ltb}
 use lib.IntN.{ℤ, pos, negsuc, negℤ, natAbs, _*ℤ_}
 use lib.Signed.{ltZ, quotZ, remZ, shrZ}
 use lib.Pow.{pow-pos, pow-mono, pow-add, shr-mono}
 use borrow.Author.Tests.{lt-ltb, le-ltb, ltb-true, ltb-false, le-leb, lt-leb}
 use Rattle.word.specs.Word.{wrap, sub, bias, sext, slt, asr, complement, sign, magnitude, signed, sdiv, srem, mulh, mulhsu}
-use Rattle.word.specs.Laws.{sext-low, sext-high, asr-positive, asr-negative, magnitude-positive, magnitude-negative, product-below, mulhsu-positive, mulhsu-negative, mulh-positive, mulh-negative}
+use Rattle.word.proofs.Laws.{sext-low, sext-high, asr-positive, asr-negative, magnitude-positive, magnitude-negative, product-below, mulhsu-positive, mulhsu-negative, mulh-positive, mulh-negative}
 
 -- the signed value of k bits (two's complement)
 unfoldable pub toℤ : ℕ → ℕ → ℤ

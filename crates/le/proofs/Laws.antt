@@ -1,4 +1,4 @@
--- Laws of numbers in bytes: a number of a + b bytes is one of a bytes and one of b behind it. Assumes nothing.
+-- Laws of numbers in bytes: a number of a + b bytes is one of a bytes and one of b after it. Assumes nothing.
 use mathlib.Core.Path.{_≡_, refl, sym, ap, _∙_}
 use mathlib.Core.List.{List, [], _∷_, _++_, append-assoc}
 use Prim.Native.Nat.{ℕ, zero, suc, _+_, _-_, _*_, _/_, _%_, _^_, _≤_, _<_}
@@ -10,7 +10,7 @@ use lib.ListN.{length, take, drop, getD, set, length-append, length-take, length
 use lib.Dec.{lit<}
 use lib.Arith.{mod-mul, digits-mod, digits-div, lt-one}
 use lib.Seq.{drop-drop, take-at, drop-at, drop-append-add, length-take-le, drop-cons, set-split, getD-take, getD-drop, getD-append-add}
-use Rattle.le.specs.Le.{number, bytes, load, store}
+use Rattle.le.specs.Le.{Bytes, number, bytes, load, store}
 
 take-none : (k : ℕ) → number (take k []) ≡ 0
 unfolding number
@@ -90,10 +90,6 @@ number-bytes zero v h = rw (lt-one h)
 number-bytes (suc k) v h =
     let l : v / 256 < 256 ^ k = div-lt-iff-lt-mul (lit< {m = 0} {n = 256} tt) .1 (rw (pow-suc 256 k) at h) in
     rw (number-bytes k (v / 256) l) (omega arith)
-
--- every element is a byte
-unfoldable pub Bytes : List ℕ → Type 0
-Bytes m = (i : ℕ) → getD m i 0 < 256
 
 number-lt : (k : ℕ) (l : List ℕ) → Bytes l → length l ≤ k → number l < 256 ^ k
 unfolding number Bytes

@@ -1,12 +1,12 @@
 -- Laws of the definitions by the signs of their arguments. Assumes nothing.
-use mathlib.Core.Bool.{Bool, true, false, cond, xor}
+use mathlib.Core.Bool.{Bool, true, false, cond}
 use mathlib.Core.Path.{_≡_, refl, sym, ap, _∙_}
 use Prim.Native.Nat.{ℕ, _+_, _-_, _*_, _/_, _%_, _^_, _≤_, _<_}
-use native.Mathlib.Nat.{add-assoc, add-comm, mul-assoc, mul-comm, mul-left-comm, mul-add, add-mul, one-mul, mul-le-mul-right, div-add-mod, mod-lt, mod-eq-of-lt, mod-add-mod, mod-eq-sub-mod, add-mod-right, add-mul-div-left, add-mul-mod-self-left, lt-of-le-of-lt, div-lt-iff-lt-mul, mul-lt-mul-of-pos-left, le-of-lt}
+use native.Mathlib.Nat.{add-assoc, add-comm, mul-assoc, mul-comm, mul-left-comm, mul-add, add-mul, mul-le-mul-right, div-add-mod, mod-lt, mod-eq-of-lt, mod-add-mod, mod-eq-sub-mod, add-mod-right, add-mul-div-left, add-mul-mod-self-left, lt-of-le-of-lt, div-lt-iff-lt-mul, mul-lt-mul-of-pos-left, le-of-lt}
 use native.Mathlib.Omega.{arith}
 use lib.Pow.{pow-pos, pow-add, pow-mono}
 use borrow.Author.Tests.{le-leb, lt-leb}
-use Rattle.word.specs.Word.{sub, sign, sext, asr, complement, magnitude, signed, sdiv, srem, sext128, upper, mulhu, mulh, mulhsu}
+use Rattle.word.specs.Word.{sub, sign, sext, asr, complement, magnitude, sext128, upper, mulhu, mulh, mulhsu}
 
 -- ---- sign extension of j + 1 bits
 

@@ -1,0 +1,36 @@
+-- What the functions of this crate promise one another; no operation's contract reaches it.
+use Prim.Native.Nat.{ℕ, _%_, _^_, _<_}
+use mathlib.Core.List.{List}
+use mathlib.Core.Option.{Option, none, some}
+use mathlib.Core.Path.{_≡_}
+use Rattle.a64.specs.Parts.{held, block-words}
+use Rattle.emit_native.specs.declared.EmitFlow.{EmitFlow}
+use Rattle.emit_native.specs.declared.Emitted.{Emitted}
+use Rattle.emit_native.specs.Calls.{Call, words}
+use Rattle.jit_arm64.specs.declared.fetch.Fetched.{Fetched}
+use Rattle.jit_arm64.specs.declared.block.NativeBlock.{NativeBlock}
+use Rattle.jit_arm64.specs.Block.{size-of, Walk, block-calls}
+
+-- what was fetched, and its length in bytes; 0 for both where a halfword is missing
+unfoldable pub fetched : Option ℕ → Fetched
+fetched none = record { size = 0; instr = 0 }
+fetched (some instr) = record { size = size-of instr; instr = instr }
+
+-- an instruction of 16 bits is one
+abbrev pub Narrow : ℕ → Type 0
+Narrow instr = (instr % 4 ≡ 3 → ⊥) → instr < 2 ^ 16
+
+pub record FetchedOf (f : Option ℕ) (r : Fetched) : Type 0 where
+  pub found : r ≡ fetched f
+  pub narrow : Narrow (r .instr)
+
+-- an instruction's words, emitted by themselves, and the flow
+pub record Compiled (slots : ℕ) (cs : List Call) (f : EmitFlow) (r : Emitted) : Type 0 where
+  pub holds : held (r .em) ≡ words slots cs
+  pub flow : r .flow ≡ f
+
+-- the block's words
+pub record BlockOf (slots : ℕ) (w : Walk) (r : NativeBlock) : Type 0 where
+  pub holds : block-words (r .em) ≡ words slots (block-calls w)
+  pub count : r .count ≡ w .count
+  pub stop : r .stop ≡ w .stop
