@@ -86,6 +86,7 @@ step Continue e helper n start emitted i rest = in-front (e .calls) (rest (suc e
 step Terminate e helper n start emitted i rest = walked (e .calls) (suc emitted) Ended (add start (i + n))
 step None e helper n start emitted i rest = helped (helper .flow) (e .calls ++ helper .calls) emitted (add start i)
 
+-- the instruction that was fetched, or none
 unfoldable pub instr-walk : Host → Option ℕ → ℕ → ℕ → ℕ → (ℕ → ℕ → Walk) → Walk
 instr-walk h none start emitted i rest = walked [] emitted NotFetched (add start i)
 instr-walk h (some instr) start emitted i rest =

@@ -16,7 +16,7 @@ unfoldable pub fetched : Option ℕ → Fetched
 fetched none = record { size = 0; instr = 0 }
 fetched (some instr) = record { size = size-of instr; instr = instr }
 
--- an instruction of 16 bits is one
+-- where the low two bits are not 11, the number has 16 bits
 abbrev pub Narrow : ℕ → Type 0
 Narrow instr = (instr % 4 ≡ 3 → ⊥) → instr < 2 ^ 16
 

@@ -2,7 +2,7 @@ use native.Mathlib.Omega.{arith}
 use borrow.Author.Needs.{needs}
 use mathlib.Core.Path.{sym}
 use mathlib.Core.List.{[], _∷_}
-use Rattle.a64.specs.Emitter.{max-words, block-words}
+use Rattle.a64.specs.Parts.{max-words, block-words}
 use Rattle.a64.proofs.Emission.{stored, kept}
 use Rattle.a64.proofs.A64Emitter.emit.Statement.{statement}
 use Rattle.a64.proofs.A64Emitter.emit.Tie as tie

@@ -1,6 +1,7 @@
 use native.Mathlib.Omega.{arith}
 use borrow.Author.Needs.{needs}
-use Rattle.a64.specs.Emitter.{held, block-words, constant}
+use Rattle.a64.specs.Emitter.{constant}
+use Rattle.a64.specs.Parts.{held, block-words}
 use Rattle.a64.proofs.Emission.{emitted-new, constant-most, length-encoded}
 use Rattle.a64.proofs.A64Emitter.mov_imm64.Statement.{statement}
 use Rattle.a64.proofs.A64Emitter.mov_imm64.Tie as tie
