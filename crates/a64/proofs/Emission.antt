@@ -72,13 +72,13 @@ emitted-all-one h gs f =
 
 -- ---- an array of words
 
--- one word stored behind n
+-- one word stored after n
 pub stored : (m : ℕ) (l : List ℕ) (n w : ℕ) → length l ≡ m → n < m → take (n + 1) (set l n w) ≡ emitted-in m (take n l) (w ∷ [])
 stored m l n w e h =
     let k : length (take n l) ≡ n = length-take-le n l (omega arith) in
     rw (add-one, take-suc-set l n w (omega arith), emitted-fits m (take n l) (w ∷ []) (omega arith))
 
--- no room behind n
+-- no room after n
 pub kept : (m : ℕ) (l : List ℕ) (n : ℕ) (ws : List ℕ) → length l ≡ m → m < n + length ws → emitted-in m (take n l) ws ≡ take n l
 kept m l n [] e h = emitted-none m (take n l)
 kept m l n (w ∷ ws) e h = emitted-full m (take n l) (w ∷ ws) (rw length-take (omega arith))
@@ -95,7 +95,7 @@ take-min (suc n) (x ∷ l) =
 pub take-held : (m n : ℕ) (l : List ℕ) → length l ≡ m → take (min n m) l ≡ take n l
 take-held m n l e = rw e at (take-min n l)
 
--- the words of an emitter copied behind n
+-- the words of an emitter copied after n
 pub pasted : (m k : ℕ) (l : List ℕ) (at : ℕ) (s : List ℕ) (n : ℕ) → length l ≡ m → length s ≡ k
     → at + min n k ≤ m
     → take (at + min n k) (paste l at s (min n k)) ≡ emitted-in m (take at l) (take n s)

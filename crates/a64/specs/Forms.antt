@@ -106,7 +106,7 @@ decode-op (op ∷ rest) w = cond (eqb (op-bits w) (op-bits (op-word op))) (DataP
 abbrev pub form-if : Bool → Form → Form
 form-if b f = cond b f Unreadable
 
--- the form of a word: its fixed bits are compared with those of the form's word, and its fields are read. The forms without a number:
+-- the form of a word: its fixed bits are compared with those of the form's word, and its fields are read. The forms without an immediate:
 abbrev pub decode-register : ℕ → Form
 decode-register w =
     cond (top-bits 21 0xEB00001F w) (form-if (mid-bits 10 6 0xEB00001F w) (form-if (low-bits 5 0xEB00001F w) (Cmp (rn w) (rm w))))

@@ -90,7 +90,7 @@ fn form_if(test: bool, f: Form) -> Form
     if test { f } else { Form::Unreadable }
 }
 
-// The form of a word without a number.
+// The form of a word without an immediate.
 fn decode_register(w: u32) -> Form
     ensures { λ r. ⌜ r ≡ decode-register w ⌝ }
 {

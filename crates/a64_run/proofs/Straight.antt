@@ -32,7 +32,7 @@ one-word : (f : Form) (ws : List ℕ) (at b k : ℕ) (s u : State) → InRange f
 unfolding run onward
 one-word f ws at b k s u h e = rw (decode-encode f h, e)
 
--- the words of a straight list take as many steps as there are, and the run goes on behind them
+-- the words of a straight list take as many steps as there are, and the run goes on after them
 pub straight-run : (fs : List Form) (ws : List ℕ) (at b k : ℕ) (s t : State) → Straight fs s t
     → run (encoded fs ++ ws) at (length fs + b) k s ≡ run ws (at + 4 * length fs) b (length fs + k) t
 straight-run [] ws at b k s t e = let p : at + 4 * 0 ≡ at = omega arith in rw (e, p, zero-add b, zero-add k)

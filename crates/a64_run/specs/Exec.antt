@@ -85,20 +85,20 @@ holds k f = cond (eqb (k % 2) 1 && not (eqb k 15)) (not (holds-even (k / 2) f)) 
 -- ---- results
 
 -- division by 0 gives 0
-unfoldable pub opValue : Op → ℕ → ℕ → ℕ
-opValue Add x y = add x y
-opValue Sub x y = difference x y
-opValue And x y = and64 x y
-opValue Orr x y = or64 x y
-opValue Eor x y = xor64 x y
-opValue Lslv x y = shl x (y % 64)
-opValue Lsrv x y = shr x (y % 64)
-opValue Asrv x y = asr x (y % 64)
-opValue Mul x y = mul x y
-opValue Smulh x y = mulh x y
-opValue Umulh x y = mulhu x y
-opValue Udiv x y = udiv x y
-opValue Sdiv x y = sdiv x y
+unfoldable pub op-value : Op → ℕ → ℕ → ℕ
+op-value Add x y = add x y
+op-value Sub x y = difference x y
+op-value And x y = and64 x y
+op-value Orr x y = or64 x y
+op-value Eor x y = xor64 x y
+op-value Lslv x y = shl x (y % 64)
+op-value Lsrv x y = shr x (y % 64)
+op-value Asrv x y = asr x (y % 64)
+op-value Mul x y = mul x y
+op-value Smulh x y = mulh x y
+op-value Umulh x y = mulhu x y
+op-value Udiv x y = udiv x y
+op-value Sdiv x y = sdiv x y
 
 -- MOVK: halfword hw of x replaced
 unfoldable pub insert : ℕ → ℕ → ℕ → ℕ
@@ -129,7 +129,7 @@ next s = after Outcome.Next s
 
 unfoldable pub exec : Form → State → After
 unfolding reaches
-exec (DataProcessing op rd rn rm) s = next (with-reg s rd (opValue op (reg s rn) (reg s rm)))
+exec (DataProcessing op rd rn rm) s = next (with-reg s rd (op-value op (reg s rn) (reg s rm)))
 exec (Ldr rt rn imm) s =
     cond (reaches s rn (address s rn imm))
     (next (with-reg s rt (load 8 (s .mem) (address s rn imm - s .base)))) (after Outcome.Fault s)

@@ -4,8 +4,8 @@ use Prim.Native.Nat.{ℕ, _+_, _/_, _%_}
 use lib.Dec.{eqb}
 use Rattle.a64_run.specs.declared.state.Flags.{Flags}
 
-abbrev pub flagsOf : ℕ → Flags
-flagsOf x = record { n = eqb (x / 8 % 2) 1; z = eqb (x / 4 % 2) 1; c = eqb (x / 2 % 2) 1; v = eqb (x % 2) 1 }
+abbrev pub flags-of : ℕ → Flags
+flags-of x = record { n = eqb (x / 8 % 2) 1; z = eqb (x / 4 % 2) 1; c = eqb (x / 2 % 2) 1; v = eqb (x % 2) 1 }
 
-abbrev pub nzcvOf : Flags → ℕ
-nzcvOf f = cond (f .n) 8 0 + cond (f .z) 4 0 + cond (f .c) 2 0 + cond (f .v) 1 0
+abbrev pub nzcv-of : Flags → ℕ
+nzcv-of f = cond (f .n) 8 0 + cond (f .z) 4 0 + cond (f .c) 2 0 + cond (f .v) 1 0

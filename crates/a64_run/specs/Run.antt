@@ -30,7 +30,7 @@ pub record Ran : Type 0 where
 abbrev pub ran : End → ℕ → State → Ran
 ran e k s = record { end = e; steps = k; state = s }
 
--- behind the word at the address at, of which k were done before: `go` is the run of the words behind it
+-- after the word at the address at, of which k were done before: `go` is the run of the words after it
 unfoldable pub onward : After → ℕ → ℕ → (State → Ran) → Ran
 onward a at k go = by (a .outcome) (a .state)
   where
@@ -50,13 +50,13 @@ run (w ∷ ws) at (suc budget) k s = onward (exec (decode w) s) at k (run ws (at
 
 -- ---- the operation
 
-abbrev pub endNumber : End → ℕ
-endNumber End.OffEnd = 1
-endNumber End.Spent = 2
-endNumber End.Unreadable = 3
-endNumber End.Fault = 4
-endNumber End.Returned = 5
-endNumber End.Called = 6
+abbrev pub end-number : End → ℕ
+end-number End.OffEnd = 1
+end-number End.Spent = 2
+end-number End.Unreadable = 3
+end-number End.Fault = 4
+end-number End.Returned = 5
+end-number End.Called = 6
 
 -- 10: block length not a multiple of 4; 11: memory base plus memory length exceeds 2 ^ 64; 0: accepted
 unfoldable pub refusal : List ℕ → ℕ → List ℕ → ℕ
@@ -73,7 +73,7 @@ abbrev pub whole : List ℕ → ℕ → A64State → ℕ → List ℕ → ℕ �
 whole block address s budget mem base = run (words block) address budget 0 (at-entry s base mem)
 
 abbrev pub accepted : Ran → Answer
-accepted r = record { refusal = 0; end = endNumber (r .end); steps = r .steps; state = registers (r .state) }
+accepted r = record { refusal = 0; end = end-number (r .end); steps = r .steps; state = registers (r .state) }
 
 abbrev pub refused : ℕ → A64State → Answer
 refused n s = record { refusal = n; end = 0; steps = 0; state = s }

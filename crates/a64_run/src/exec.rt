@@ -3,7 +3,7 @@ ghost use mathlib.Core.Bool.{cond};
 ghost use mathlib.Core.Path.{_≡_};
 ghost use Prim.Native.Nat.{_/_, _<_};
 ghost use lib.ListN.{length, getD, set};
-ghost use Rattle.a64_run.specs.Exec.{opValue, compared, holds-even, holds, insert, machine};
+ghost use Rattle.a64_run.specs.Exec.{op-value, compared, holds-even, holds, insert, machine};
 ghost use Rattle.a64_run.specs.Parts.{Within, Reached, Executed};
 ghost use Rattle.a64.specs.Parts.{InRange};
 ghost use Rattle.a64_run.specs.declared.state.Flags as F;
@@ -65,7 +65,7 @@ fn udiv(x: u64, y: u64) -> u64
 // operation is the only one.
 fn op_value(op: Op, x: &[u64; 31], n: u32, m: u32) -> u64
     requires { ⌜ length (now x) ≡ 31 ⌝ }
-    ensures { λ r. ⌜ r ≡ opValue op (getD (now (x .entry)) n 0) (getD (now (x .entry)) m 0) ⌝ }
+    ensures { λ r. ⌜ r ≡ op-value op (getD (now (x .entry)) n 0) (getD (now (x .entry)) m 0) ⌝ }
 {
     match op {
         Op::Add => std::num::wrapping_add_u64(get(x, n), get(x, m)),

@@ -38,7 +38,7 @@ pub struct Answer {
 }
 
 fn end_number(e: End) -> u32
-    ensures { λ r. ⌜ r ≡ R.endNumber e ⌝ }
+    ensures { λ r. ⌜ r ≡ R.end-number e ⌝ }
 {
     match e {
         End::OffEnd => 1,

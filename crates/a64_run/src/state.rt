@@ -2,7 +2,7 @@
 ghost use mathlib.Core.Bool.{cond};
 ghost use mathlib.Core.Path.{_≡_};
 ghost use Prim.Native.Nat.{_≤_};
-ghost use Rattle.a64_run.specs.Nzcv.{flagsOf, nzcvOf};
+ghost use Rattle.a64_run.specs.Nzcv.{flags-of, nzcv-of};
 
 // PSTATE.{N, Z, C, V}.
 pub struct Flags {
@@ -28,7 +28,7 @@ fn bit(b: bool, weight: u64) -> u64
 
 // The flags in the low four bits of a number.
 pub fn flags_of(nzcv: u64) -> Flags
-    ensures { λ r. ⌜ r ≡ flagsOf nzcv ⌝ }
+    ensures { λ r. ⌜ r ≡ flags-of nzcv ⌝ }
 {
     Flags {
         n: nzcv / 8 % 2 == 1,
@@ -40,7 +40,7 @@ pub fn flags_of(nzcv: u64) -> Flags
 
 // The number whose low four bits are the flags.
 pub fn nzcv_of(f: Flags) -> u64
-    ensures { λ r. ⌜ r ≡ nzcvOf f ⌝ }
+    ensures { λ r. ⌜ r ≡ nzcv-of f ⌝ }
 {
     bit(f.n, 8) + bit(f.z, 4) + bit(f.c, 2) + bit(f.v, 1)
 }

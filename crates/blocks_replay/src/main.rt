@@ -31,7 +31,7 @@ fn same_answer(answer: Answer, found: &[u8; 5]) -> bool {
 }
 
 // Compares refusal, helper mark, count, length and every byte of the output. `output` and `expected` come with the same
-// bytes, and the recorded words go to the front of `expected`: the bytes behind them, and all under a refusal, must stay.
+// bytes, and the recorded words go to the front of `expected`: the bytes after them, and all under a refusal, must stay.
 fn agrees(fd: i32, guest: &[u8], asked: &[u8; 49], output: &mut [u8], expected: &mut [u8]) -> bool {
     let answer = ask(guest, asked, output);
     let mut found = [0u8; 5];
@@ -102,7 +102,7 @@ fn replay_all(fd: i32, cases: u32) -> u32 {
 // "A64BLOCK"
 const MAGIC: u64 = 0x4b43_4f4c_4234_3641;
 
-// How many cases the file has; none where it is no file of cases. The seed behind the number is not used.
+// How many cases the file has; none where it is no file of cases. The seed after the number is not used.
 fn read_header(fd: i32) -> u32 {
     let mut header = [0u8; 20];
     io::read_full(fd, &mut header);
@@ -112,7 +112,7 @@ fn read_header(fd: i32) -> u32 {
     le::load32(&header, 8)
 }
 
-// Replays a file's cases and says how many there were and how many differ, and whether the file goes on behind them.
+// Replays a file's cases and says how many there were and how many differ, and whether the file goes on after them.
 fn replay(path: &[u8]) {
     let fd = os::open_read(path);
     if fd < 0 {
@@ -121,8 +121,8 @@ fn replay(path: &[u8]) {
     }
     let cases = read_header(fd);
     let wrong = replay_all(fd, cases);
-    let mut behind = [0u8; 1];
-    let rest = io::read_full(fd, &mut behind);
+    let mut after = [0u8; 1];
+    let rest = io::read_full(fd, &mut after);
     libc::close(fd);
     io::write_all(STDOUT_FILENO, path);
     io::write_all(STDOUT_FILENO, b": ");
@@ -131,7 +131,7 @@ fn replay(path: &[u8]) {
     io::print_decimal(STDOUT_FILENO, wrong as u64);
     io::write_all(STDOUT_FILENO, b" differ\n");
     if rest > 0 {
-        io::write_all(STDOUT_FILENO, b"more bytes behind them\n");
+        io::write_all(STDOUT_FILENO, b"more bytes after them\n");
     }
 }
 

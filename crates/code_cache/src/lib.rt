@@ -1,4 +1,4 @@
-// Operation Place: a block's bytes behind what a store holds.
+// Operation Place: a block's bytes after what a store holds.
 ghost use mathlib.Core.Path.{_≡_};
 ghost use mathlib.Core.List.{_++_};
 ghost use Prim.Native.Nat.{_+_, _≤_};

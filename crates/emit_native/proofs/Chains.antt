@@ -5,10 +5,10 @@ use mathlib.Core.List.{List, map-append}
 use Rattle.a64.specs.Parts.{held, emitted-all}
 use Rattle.a64.proofs.Emission.{emitted-all-append}
 use Rattle.emit_native.specs.declared.Emitted.{Emitted}
-use Rattle.emit_native.specs.Calls.{Call, groups, Emission, behind, store-rd, then-store-rd}
+use Rattle.emit_native.specs.Calls.{Call, groups, Emission, calls-first, store-rd, then-store-rd}
 use Rattle.emit_native.specs.Parts.{Emits}
 
--- calls behind those of a match
+-- calls after those of a match
 pub then : (slots rd : ℕ) (h : List ℕ) (e : Emission) (out r : Emitted) → Emits slots h e out
     → (held (r .em) ≡ emitted-all (held (out .em)) (groups slots (store-rd (out .flow) rd))) × (r .flow ≡ out .flow)
     → Emits slots h (then-store-rd rd e) r
@@ -17,5 +17,5 @@ then slots rd h e out r a b =
 
 -- calls in front of it
 pub first : (slots : ℕ) (h h′ : List ℕ) (cs : List Call) (e : Emission) (r : Emitted) → h′ ≡ emitted-all h (groups slots cs) → Emits slots h′ e r
-    → Emits slots h (behind cs e) r
+    → Emits slots h (calls-first cs e) r
 first slots h h′ cs e r a b = record { words = b .words ∙ rw (a, map-append, emitted-all-append); flow = b .flow }

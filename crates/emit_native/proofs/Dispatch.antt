@@ -9,7 +9,7 @@ use borrow.Author.Tests.{eqb-true}
 use Rattle.isa.specs.declared.classes.Class.{Class}
 use Rattle.isa.specs.declared.classes.Class.the-variants.{Load, LoadFp, MiscMem, OpImm, Auipc, OpImm32, Store, StoreFp, Amo, Op, Lui, Op32, Branch, Jalr, Jal, System, Other}
 use Rattle.isa.specs.declared.decode.Decoded32.{Decoded32}
-use Rattle.isa.specs.Classes.{classOf}
+use Rattle.isa.specs.Classes.{class-of}
 use Rattle.emit_native.specs.Calls.{Emission, none}
 use Rattle.emit_native.specs.Decode.{decode32}
 use Rattle.emit_native.specs.Instr32.{lui, auipc, jal, jalr, branch, op-imm, op-imm-32, op-32, op, misc-mem, emit-native-instr}
@@ -49,8 +49,8 @@ by-opcode : (P : ℕ → Class → Type 0)
     → eqb n 0b0011011 ≡ false → eqb n 0b0100011 ≡ false → eqb n 0b0100111 ≡ false → eqb n 0b0101111 ≡ false → eqb n 0b0110011 ≡ false
     → eqb n 0b0110111 ≡ false → eqb n 0b0111011 ≡ false → eqb n 0b1100011 ≡ false → eqb n 0b1100111 ≡ false → eqb n 0b1101111 ≡ false
     → eqb n 0b1110011 ≡ false → P n Other)
-    → P n (classOf n)
-unfolding classOf
+    → P n (class-of n)
+unfolding class-of
 by-opcode P load load-fp misc-mem op-imm auipc op-imm-32 store store-fp amo op lui op-32 branch jalr jal system n other =
     at 0b0000011 Load load _ (λ a. at 0b0000111 LoadFp load-fp _ (λ b. at 0b0001111 MiscMem misc-mem _ (λ c. at 0b0010011 OpImm op-imm _ (λ d.
     at 0b0010111 Auipc auipc _ (λ e. at 0b0011011 OpImm32 op-imm-32 _ (λ f. at 0b0100011 Store store _ (λ g. at 0b0100111 StoreFp store-fp _ (λ h.
@@ -66,14 +66,14 @@ abbrev with-opcode : ℕ → Decoded32 → Decoded32
 with-opcode n d = record { opcode = n; rd = d .rd; funct3 = d .funct3; rs1 = d .rs1; rs2 = d .rs2; funct7 = d .funct7; funct5 = d .funct5; imm12 = d .imm12 }
 
 module _ (pc instr : ℕ) where
-  by-class-is : (d : Decoded32) (n : ℕ) → emit-native-instr pc instr (with-opcode n d) ≡ by-class pc instr (with-opcode n d) (classOf n)
+  by-class-is : (d : Decoded32) (n : ℕ) → emit-native-instr pc instr (with-opcode n d) ≡ by-class pc instr (with-opcode n d) (class-of n)
   unfolding emit-native-instr
   by-class-is d n =
       by-opcode (λ (k : ℕ) (c : Class). emit-native-instr pc instr (with-opcode k d) ≡ by-class pc instr (with-opcode k d) c)
       refl refl refl refl refl refl refl refl refl refl refl refl refl refl refl refl n
       (λ a b c′ d′ e f g h i j k l m o p q. rw (k, e, p, o, m, d′, f, l, j, c′))
 
-  pub in-class : (d : Decoded32) (c : Class) → d ≡ decode32 instr → c ≡ classOf (instr % 128) → emit-native-instr pc instr d ≡ by-class pc instr d c
+  pub in-class : (d : Decoded32) (c : Class) → d ≡ decode32 instr → c ≡ class-of (instr % 128) → emit-native-instr pc instr d ≡ by-class pc instr d c
   in-class d c e f = rw (f, e) (by-class-is (decode32 instr) (instr % 128))
 
 -- the registers of a word that was decoded

@@ -11,7 +11,7 @@ use Rattle.a64.proofs.Emission.{constant-most}
 use Rattle.isa.specs.declared.decode.Decoded32.{Decoded32}
 use Rattle.emit_native.specs.declared.EmitFlow.{EmitFlow}
 use Rattle.emit_native.specs.declared.EmitFlow.the-variants.{Continue, Terminate, None}
-use Rattle.emit_native.specs.Calls.{Call, emit, mov-imm64, load, store, forms, groups, if-not-0, store-rd, Emission, behind, then-store-rd, add-x, and-x}
+use Rattle.emit_native.specs.Calls.{Call, emit, mov-imm64, load, store, forms, groups, if-not-0, store-rd, Emission, calls-first, then-store-rd, add-x, and-x}
 use Rattle.emit_native.specs.Isa.{OPCODE-LUI, OPCODE-AUIPC, OPCODE-JAL, OPCODE-JALR, OPCODE-BRANCH, OPCODE-OP-IMM, OPCODE-OP, OPCODE-OP-IMM-32, OPCODE-OP-32, OPCODE-MISC-MEM, F3-FENCE, F3-FENCE-I, not-1, F3-ADD-SUB, F3-SLL, F3-SLT, F3-SLTU, F3-XOR, F3-SRL-SRA, F3-OR, F3-AND, F3-BEQ, F3-BNE, F3-BLT, F3-BGE, F3-BLTU, F3-BGEU, F7-BASE, F7-SUB-SRA, F7-MULDIV}
 use Rattle.emit_native.specs.Decode.{imm-i, imm-u, imm-j, imm-ci, c-funct3, c-op, c-rd, c-rs2, rs1-prime, rs2-prime, imm-addi4spn, imm-addi16sp}
 use Rattle.word.specs.Word.{add}
@@ -80,8 +80,8 @@ module _ (slots : ℕ) where
   cheap : {n : ℕ} (e : Emission) → costs (e .calls) ≤ n → Within n e
   cheap e h = record { within = omega (arith, size-le (e .calls)) }
 
-  -- in front of a match, and behind it
-  front : {m n : ℕ} (cs : List Call) (e : Emission) → costs cs + m ≤ n → Within m e → Within n (behind cs e)
+  -- in front of a match, and after it
+  front : {m n : ℕ} (cs : List Call) (e : Emission) → costs cs + m ≤ n → Within m e → Within n (calls-first cs e)
   front cs e h k = record { within = omega (arith, size-append cs (e .calls), size-le cs, k .within) }
 
   stored : {m n : ℕ} (rd : ℕ) (e : Emission) → m + 1 ≤ n → Within m e → Within n (then-store-rd rd e)

@@ -130,10 +130,10 @@ abbrev pub none : List Call → Emission
 none cs = record { calls = cs; flow = None }
 
 -- calls in front of a match
-abbrev pub behind : List Call → Emission → Emission
-behind cs e = record { calls = cs ++ e .calls; flow = e .flow }
+abbrev pub calls-first : List Call → Emission → Emission
+calls-first cs e = record { calls = cs ++ e .calls; flow = e .flow }
 
--- `store_rd(em, rd)` behind a match, which a `return None` passes by
+-- `store_rd(em, rd)` after a match, which a `return None` passes by
 unfoldable pub store-rd : EmitFlow → ℕ → List Call
 store-rd Continue rd = if-not-0 rd (store 11 rd ∷ [])
 store-rd Terminate rd = []

@@ -6,7 +6,7 @@ use lib.Dec.{eqb}
 use Rattle.word.specs.Word.{add, shl}
 use Rattle.emit_native.specs.Isa.{C-EQ, C-NE, not-1}
 use Rattle.emit_native.specs.Decode.{c-funct3, c-op, c-rd, c-rs2, rd-prime, rs1-prime, rs2-prime, imm-ci, shamt, imm-addi4spn, imm-addi16sp, imm-cj, imm-cb}
-use Rattle.emit_native.specs.Calls.{add-x, sub-x, and-x, orr-x, eor-x, lslv-x, lsrv-x, asrv-x, cmp-x, csel-x, sxtw-x, Call, emit, mov-imm64, load, store, if-not-0, Emission, continue, terminate, none, behind}
+use Rattle.emit_native.specs.Calls.{add-x, sub-x, and-x, orr-x, eor-x, lslv-x, lsrv-x, asrv-x, cmp-x, csel-x, sxtw-x, Call, emit, mov-imm64, load, store, if-not-0, Emission, continue, terminate, none, calls-first}
 
 -- ---- 0b00
 
@@ -62,7 +62,7 @@ c-andi instr =
     let rs1 = rs1-prime instr in
     continue (load 9 rs1 ∷ mov-imm64 10 (imm-ci instr) ∷ emit (and-x 11 9 10) ∷ store 11 rs1 ∷ [])
 
--- `match (subop, alu2)`, with the store behind it
+-- `match (subop, alu2)`, with the store after it
 unfoldable pub c-alu : ℕ → ℕ → ℕ → Emission
 c-alu subop alu2 rs1 =
     let store-rs1 : List Call = store 11 rs1 ∷ [] in
@@ -83,7 +83,7 @@ c-group instr =
     (cond (eqb funct2 0b01) (c-srai instr)
     (cond (eqb funct2 0b10) (c-andi instr)
     (cond (eqb funct2 0b11)
-    (behind (load 9 (rs1-prime instr) ∷ load 10 (rs2-prime instr) ∷ []) (c-alu (instr / 2 ^ 12 % 2) (instr / 2 ^ 5 % 4) (rs1-prime instr)))
+    (calls-first (load 9 (rs1-prime instr) ∷ load 10 (rs2-prime instr) ∷ []) (c-alu (instr / 2 ^ 12 % 2) (instr / 2 ^ 5 % 4) (rs1-prime instr)))
     (none []))))
 
 unfoldable pub c-j : ℕ → ℕ → Emission

@@ -7,7 +7,7 @@ use Rattle.word.specs.Word.{add}
 use Rattle.isa.specs.declared.decode.Decoded32.{Decoded32}
 use Rattle.emit_native.specs.Isa.{OPCODE-LUI, OPCODE-AUIPC, OPCODE-JAL, OPCODE-JALR, OPCODE-BRANCH, OPCODE-OP-IMM, OPCODE-OP, OPCODE-OP-IMM-32, OPCODE-OP-32, OPCODE-MISC-MEM, F3-ADD-SUB, F3-SLL, F3-SLT, F3-SLTU, F3-XOR, F3-SRL-SRA, F3-OR, F3-AND, F3-BEQ, F3-BNE, F3-BLT, F3-BGE, F3-BLTU, F3-BGEU, F3-FENCE, F3-FENCE-I, F7-BASE, F7-SUB-SRA, F7-MULDIV, C-EQ, C-NE, C-CS, C-CC, C-MI, C-GE, C-LT, u64-MAX, i64-MIN, not-1}
 use Rattle.emit_native.specs.Decode.{imm-i, imm-b, imm-u, imm-j}
-use Rattle.emit_native.specs.Calls.{add-x, sub-x, and-x, orr-x, eor-x, lslv-x, lsrv-x, asrv-x, mul-x, smulh-x, umulh-x, udiv-x, sdiv-x, cmp-x, csel-x, sxtw-x, emit, mov-imm64, load, store, if-not-0, Emission, continue, terminate, none, behind, then-store-rd}
+use Rattle.emit_native.specs.Calls.{add-x, sub-x, and-x, orr-x, eor-x, lslv-x, lsrv-x, asrv-x, mul-x, smulh-x, umulh-x, udiv-x, sdiv-x, cmp-x, csel-x, sxtw-x, emit, mov-imm64, load, store, if-not-0, Emission, continue, terminate, none, calls-first, then-store-rd}
 
 unfoldable pub lui : ℕ → Decoded32 → Emission
 lui instr d = continue (if-not-0 (d .rd) (mov-imm64 11 (imm-u instr) ∷ store 11 (d .rd) ∷ []))
@@ -71,14 +71,14 @@ op-imm-arm imm imm12 funct3 =
     (cond (eqb funct3 F3-SLL)
     (cond (eqb imm-hi 0) (continue (mov-imm64 10 (imm12 % 64) ∷ emit (lslv-x 11 9 10) ∷ [])) (none []))
     (cond (eqb funct3 F3-SRL-SRA)
-    (behind (mov-imm64 10 (imm12 % 64) ∷ [])
+    (calls-first (mov-imm64 10 (imm12 % 64) ∷ [])
     (cond (eqb imm-hi 0x00) (continue (emit (lsrv-x 11 9 10) ∷ []))
     (cond (eqb imm-hi 0x10) (continue (emit (asrv-x 11 9 10) ∷ []))
     (none []))))
     (none []))))))))
 
 unfoldable pub op-imm : ℕ → Decoded32 → Emission
-op-imm instr d = behind (load 9 (d .rs1) ∷ []) (then-store-rd (d .rd) (op-imm-arm (imm-i instr) (d .imm12) (d .funct3)))
+op-imm instr d = calls-first (load 9 (d .rs1) ∷ []) (then-store-rd (d .rd) (op-imm-arm (imm-i instr) (d .imm12) (d .funct3)))
 
 -- ---- OPCODE_OP_IMM_32
 
@@ -90,7 +90,7 @@ op-imm-32-arm imm imm12 funct7 funct3 =
     (continue (mov-imm64 10 (imm12 % 32) ∷ emit (lslv-x 11 9 10) ∷ emit (sxtw-x 11 11) ∷ []))
     (none []))
     (cond (eqb funct3 F3-SRL-SRA)
-    (behind (mov-imm64 10 (imm12 % 32) ∷ [])
+    (calls-first (mov-imm64 10 (imm12 % 32) ∷ [])
     (cond (eqb funct7 F7-BASE)
     (continue
     (mov-imm64 12 0xFFFFFFFF ∷ emit (and-x 11 9 12) ∷ emit (lsrv-x 11 11 10) ∷ emit (sxtw-x 11 11) ∷ []))
@@ -101,7 +101,7 @@ op-imm-32-arm imm imm12 funct7 funct3 =
 
 unfoldable pub op-imm-32 : ℕ → Decoded32 → Emission
 op-imm-32 instr d =
-    behind (load 9 (d .rs1) ∷ [])
+    calls-first (load 9 (d .rs1) ∷ [])
     (then-store-rd (d .rd) (op-imm-32-arm (imm-i instr) (d .imm12) (d .funct7) (d .funct3)))
 
 -- ---- OPCODE_OP_32: `match (funct7, funct3)`
@@ -188,7 +188,7 @@ op-32-arm funct7 funct3 =
 
 unfoldable pub op-32 : Decoded32 → Emission
 op-32 d =
-    behind (load 9 (d .rs1) ∷ load 10 (d .rs2) ∷ []) (then-store-rd (d .rd) (op-32-arm (d .funct7) (d .funct3)))
+    calls-first (load 9 (d .rs1) ∷ load 10 (d .rs2) ∷ []) (then-store-rd (d .rd) (op-32-arm (d .funct7) (d .funct3)))
 
 -- ---- OPCODE_OP: `match (funct7, funct3)`
 
@@ -289,7 +289,7 @@ op-arm funct7 funct3 =
     (none []))))))))))))))))))
 
 unfoldable pub op : Decoded32 → Emission
-op d = behind (load 9 (d .rs1) ∷ load 10 (d .rs2) ∷ []) (then-store-rd (d .rd) (op-arm (d .funct7) (d .funct3)))
+op d = calls-first (load 9 (d .rs1) ∷ load 10 (d .rs2) ∷ []) (then-store-rd (d .rd) (op-arm (d .funct7) (d .funct3)))
 
 unfoldable pub misc-mem : Decoded32 → Emission
 misc-mem d = cond (eqb (d .funct3) F3-FENCE || eqb (d .funct3) F3-FENCE-I) (continue []) (none [])

@@ -80,7 +80,7 @@ fn stores(flow: EmitFlow, rd: u8) -> bool
     }
 }
 
-// X11 into a guest register that is not 0, behind a match whose arm was found.
+// X11 into a guest register that is not 0, after a match whose arm was found.
 pub fn store_rd(out: Emitted, slots: u16, rd: u8) -> Emitted
     requires { ⌜ (slots ≤ 32512) × (rd < 32) ⌝ }
     ensures { λ r. ⌜ (held (r .em) ≡ emitted-all (held (out .em)) (groups slots (store-rd (out .flow) rd))) × (r .flow ≡ out .flow) ⌝ }

@@ -30,7 +30,7 @@ module _ (bytes : List ℕ) (i : ℕ) where
   unfolding halfword-at
   missing e = missing-by (leb (i + 2) (length bytes)) refl e
 
--- a PC that lies i behind the start PC
+-- a PC that lies i after the start PC
 pub index-add : (start i : ℕ) → start < 2 ^ 64 → i < 2 ^ 64 → index start (add start i) ≡ i
 index-add start i hs hi = omega arith
 

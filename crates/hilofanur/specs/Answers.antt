@@ -12,7 +12,7 @@ use Rattle.rv64.specs.declared.run.Answer as Rv64
 use Rattle.rv64.specs.Run.{number}
 use Rattle.a64_run.specs.declared.state.A64State.{A64State}
 use Rattle.a64_run.specs.declared.run.Answer.{Answer}
-use Rattle.a64_run.specs.Nzcv.{flagsOf, nzcvOf}
+use Rattle.a64_run.specs.Nzcv.{flags-of, nzcv-of}
 use Rattle.hilofanur.specs.declared.TranslateAnswer.{TranslateAnswer}
 use Rattle.hilofanur.specs.declared.PlaceAnswer.{PlaceAnswer}
 use Rattle.hilofanur.specs.declared.A64RunAnswer.{A64RunAnswer}
@@ -36,10 +36,10 @@ place store used code = place-of (P.placed store used code)
 
 -- X0 to X30, SP and NZCV, eight bytes each
 abbrev pub a64-state : List ℕ → A64State
-a64-state m = record { x = numbers 31 m; sp = load 8 m 248; flags = flagsOf (load 8 m 256) }
+a64-state m = record { x = numbers 31 m; sp = load 8 m 248; flags = flags-of (load 8 m 256) }
 
 abbrev pub a64-numbers : A64State → List ℕ
-a64-numbers s = s .x ++ (s .sp ∷ nzcvOf (s .flags) ∷ [])
+a64-numbers s = s .x ++ (s .sp ∷ nzcv-of (s .flags) ∷ [])
 
 abbrev pub a64-of : Answer → A64RunAnswer
 a64-of a = record { refusal = a .refusal; end = a .end; steps = a .steps }

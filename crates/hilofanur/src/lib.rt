@@ -40,7 +40,7 @@ pub struct A64RunAnswer {
     pub steps: u64,
 }
 
-// The refusal; the instructions done; the PC behind them.
+// The refusal; the instructions done; the PC after them.
 #[repr(C)]
 pub struct Rv64RunAnswer {
     pub refusal: u32,

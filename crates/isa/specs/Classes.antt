@@ -5,8 +5,8 @@ use lib.Dec.{eqb}
 use Rattle.isa.specs.declared.classes.Class.{Class}
 use Rattle.isa.specs.declared.classes.Class.the-variants.{Load, LoadFp, MiscMem, OpImm, Auipc, OpImm32, Store, StoreFp, Amo, Op, Lui, Op32, Branch, Jalr, Jal, System, Other}
 
-unfoldable pub classOf : ℕ → Class
-classOf n =
+unfoldable pub class-of : ℕ → Class
+class-of n =
     cond (eqb n 0b0000011) Load
     (cond (eqb n 0b0000111) LoadFp
     (cond (eqb n 0b0001111) MiscMem

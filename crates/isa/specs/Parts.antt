@@ -33,8 +33,8 @@ decoded w =
     }
 
 -- the S-type's immediate
-abbrev pub immS : ℕ → ℕ
-immS w = sext 12 (inst 31 25 w * 2 ^ 5 + inst 11 7 w)
+abbrev pub s-imm : ℕ → ℕ
+s-imm w = sext 12 (inst 31 25 w * 2 ^ 5 + inst 11 7 w)
 
 -- ---- classes
 

@@ -1,7 +1,7 @@
 // The class of each opcode, the low seven bits of a 32-bit instruction.
 ghost use mathlib.Core.Path.{_≡_};
 ghost use Rattle.isa.specs.Formats.{opcode};
-ghost use Rattle.isa.specs.Classes.{classOf};
+ghost use Rattle.isa.specs.Classes.{class-of};
 ghost use Rattle.isa.specs.Parts.{numbered};
 
 // The opcodes of isa.rs that the translator tells apart; every other one is Other.
@@ -182,7 +182,7 @@ fn numbered_class(k: u8) -> Class
 }
 
 pub fn opcode_class(instr: u32) -> Class
-    ensures { λ r. ⌜ r ≡ classOf (opcode instr) ⌝ }
+    ensures { λ r. ⌜ r ≡ class-of (opcode instr) ⌝ }
 {
     let n = (instr % 128) as usize;
     numbered_class(CLASSES[n])

@@ -2,8 +2,8 @@
 ghost use mathlib.Core.Path.{_≡_};
 ghost use Prim.Native.Nat.{_≤_};
 ghost use Rattle.word.specs.Word.{sext};
-ghost use Rattle.isa.specs.Formats.{immI, immB, immU, immJ, immCIW, immCI, immCI16, immCJ, immCB, shamtC};
-ghost use Rattle.isa.specs.Parts.{decoded, immS};
+ghost use Rattle.isa.specs.Formats.{i-imm, b-imm, u-imm, j-imm, ciw-imm, ci-imm, ci16-imm, cj-imm, cb-imm, shamt-c};
+ghost use Rattle.isa.specs.Parts.{decoded, s-imm};
 
 pub struct Decoded32 {
     pub opcode: u8,
@@ -24,20 +24,20 @@ pub fn sign_extend(val: u64, bits: u32) -> u64
 }
 
 pub fn imm_i(instr: u32) -> u64
-    ensures { λ r. ⌜ r ≡ immI instr ⌝ }
+    ensures { λ r. ⌜ r ≡ i-imm instr ⌝ }
 {
     sign_extend((instr / 0x10_0000 % 4096) as u64, 12)
 }
 
 pub fn imm_s(instr: u32) -> u64
-    ensures { λ r. ⌜ r ≡ immS instr ⌝ }
+    ensures { λ r. ⌜ r ≡ s-imm instr ⌝ }
 {
     let imm = instr / 0x200_0000 % 128 * 32 + instr / 128 % 32;
     sign_extend(imm as u64, 12)
 }
 
 pub fn imm_b(instr: u32) -> u64
-    ensures { λ r. ⌜ r ≡ immB instr ⌝ }
+    ensures { λ r. ⌜ r ≡ b-imm instr ⌝ }
 {
     let bit12 = instr / 0x8000_0000 % 2;
     let bit11 = instr / 128 % 2;
@@ -48,13 +48,13 @@ pub fn imm_b(instr: u32) -> u64
 }
 
 pub fn imm_u(instr: u32) -> u64
-    ensures { λ r. ⌜ r ≡ immU instr ⌝ }
+    ensures { λ r. ⌜ r ≡ u-imm instr ⌝ }
 {
     sign_extend((instr / 4096 % 0x10_0000 * 4096) as u64, 32)
 }
 
 pub fn imm_j(instr: u32) -> u64
-    ensures { λ r. ⌜ r ≡ immJ instr ⌝ }
+    ensures { λ r. ⌜ r ≡ j-imm instr ⌝ }
 {
     let bit20 = instr / 0x8000_0000 % 2;
     let bits19_12 = instr / 4096 % 256;
@@ -81,7 +81,7 @@ pub fn decode32(instr: u32) -> Decoded32
 
 // Of C.ADDI4SPN.
 pub fn imm_ciw(instr: u16) -> u64
-    ensures { λ r. ⌜ r ≡ immCIW instr ⌝ }
+    ensures { λ r. ⌜ r ≡ ciw-imm instr ⌝ }
 {
     let w = instr as u64;
     w / 128 % 16 * 64 + w / 2048 % 4 * 16 + w / 32 % 2 * 8 + w / 64 % 2 * 4
@@ -89,7 +89,7 @@ pub fn imm_ciw(instr: u16) -> u64
 
 // Of C.SLLI, C.SRLI and C.SRAI.
 pub fn shamt_c(instr: u16) -> u64
-    ensures { λ r. ⌜ r ≡ shamtC instr ⌝ }
+    ensures { λ r. ⌜ r ≡ shamt-c instr ⌝ }
 {
     let w = instr as u64;
     w / 4096 % 2 * 32 + w / 4 % 32
@@ -97,7 +97,7 @@ pub fn shamt_c(instr: u16) -> u64
 
 // Of C.ADDI, C.ADDIW, C.LI, C.ANDI and C.LUI.
 pub fn imm_ci(instr: u16) -> u64
-    ensures { λ r. ⌜ r ≡ immCI instr ⌝ }
+    ensures { λ r. ⌜ r ≡ ci-imm instr ⌝ }
 {
     let w = instr as u64;
     sign_extend(w / 4096 % 2 * 32 + w / 4 % 32, 6)
@@ -105,7 +105,7 @@ pub fn imm_ci(instr: u16) -> u64
 
 // Of C.ADDI16SP.
 pub fn imm_ci16(instr: u16) -> u64
-    ensures { λ r. ⌜ r ≡ immCI16 instr ⌝ }
+    ensures { λ r. ⌜ r ≡ ci16-imm instr ⌝ }
 {
     let w = instr as u64;
     let imm = w / 4096 % 2 * 512
@@ -118,7 +118,7 @@ pub fn imm_ci16(instr: u16) -> u64
 
 // Of C.J.
 pub fn imm_cj(instr: u16) -> u64
-    ensures { λ r. ⌜ r ≡ immCJ instr ⌝ }
+    ensures { λ r. ⌜ r ≡ cj-imm instr ⌝ }
 {
     let w = instr as u64;
     let high = w / 4096 % 2 * 2048 + w / 256 % 2 * 1024 + w / 512 % 4 * 256 + w / 64 % 2 * 128;
@@ -128,7 +128,7 @@ pub fn imm_cj(instr: u16) -> u64
 
 // Of C.BEQZ and C.BNEZ.
 pub fn imm_cb(instr: u16) -> u64
-    ensures { λ r. ⌜ r ≡ immCB instr ⌝ }
+    ensures { λ r. ⌜ r ≡ cb-imm instr ⌝ }
 {
     let w = instr as u64;
     let imm = w / 4096 % 2 * 256

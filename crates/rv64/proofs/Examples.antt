@@ -5,7 +5,7 @@ use mathlib.Core.List.{List, [], _∷_}
 use Prim.Native.Nat.{ℕ, zero, suc, _-_, _^_}
 use lib.ListN.{replicate, set}
 use Rattle.word.specs.Word.{sdiv, srem, magnitude, signed, mulh, mulhsu, sext128}
-use Rattle.isa.specs.Classes.{classOf}
+use Rattle.isa.specs.Classes.{class-of}
 use Rattle.le.specs.Le.{load}
 use Rattle.rv64.specs.declared.alu.Alu.{Alu}
 use Rattle.rv64.specs.declared.alu.Cond.{Cond}
@@ -29,7 +29,7 @@ decoded32 : (D.decode32 0x00000013 ≡ Instr.OpImm Alu.Add 0 0 0)
     × (D.decode32 0x00002003 ≡ Instr.Helper)
     × (D.decode32 0x00000073 ≡ Instr.Uncovered)
     × (D.decode32 0x04001013 ≡ Instr.Uncovered)
-unfolding D.decode32 D.byClass classOf D.opImm D.imms D.shiftImm D.shifts D.branch D.branches D.below
+unfolding D.decode32 D.by-class class-of D.op-imm D.imms D.shift-imm D.shifts D.branch D.branches D.below
 decoded32 = (refl, refl, refl, refl, refl, refl, refl, refl, refl, refl)
 
 -- C.NOP, C.LI -1, C.JR, C.JALR, C.EBREAK with and without the flag, C.LWSP with rd 0, the reserved C.ADDW-group, all zero
@@ -42,7 +42,7 @@ decoded16 : (C.decode16 false 0x0001 ≡ Instr.OpImm Alu.Add 0 0 0)
     × (C.decode16 false 0x4002 ≡ Instr.Helper)
     × (C.decode16 false 0x9C41 ≡ Instr.Uncovered)
     × (C.decode16 false 0x0000 ≡ Instr.Uncovered)
-unfolding C.decode16 C.quadrants C.quadrant0 C.table0 C.quadrant1 C.table1 C.quadrant2 C.table2 C.unless0 C.miscAlu C.miscAlus C.arith C.ariths C.cr C.crs C.jrMv C.ebreakJalrAdd
+unfolding C.decode16 C.quadrants C.quadrant0 C.table0 C.quadrant1 C.table1 C.quadrant2 C.table2 C.unless0 C.misc-alu C.misc-alus C.arith C.ariths C.cr C.crs C.jr-mv C.ebreak-jalr-add
 decoded16 = (refl, refl, refl, refl, refl, refl, refl, refl, refl)
 
 -- ---- SEQZ, SEXT.W, and M's table of division by 0 and overflow, at both widths
@@ -63,7 +63,7 @@ values : (N.value Alu.Sltu 0 1 ≡ 1)
     × (N.value Alu.Rem (2 ^ 64 - 7) 2 ≡ 2 ^ 64 - 1)
     × (N.value Alu.Mulh (2 ^ 64 - 1) (2 ^ 64 - 1) ≡ 0)
     × (N.value Alu.Mulhsu (2 ^ 64 - 1) (2 ^ 64 - 1) ≡ 2 ^ 64 - 1)
-unfolding N.value N.quotient N.remainder N.quotientU N.remainderU sdiv srem magnitude signed mulh mulhsu sext128 xor
+unfolding N.value N.quotient N.remainder N.quotient-u N.remainder-u sdiv srem magnitude signed mulh mulhsu sext128 xor
 values = (refl, refl, refl, refl, refl, refl, refl, refl, refl, refl, refl, refl, refl, refl, refl, refl, refl)
 
 -- ---- document 01's marked blocks
@@ -85,7 +85,7 @@ marked : (at1 (0x01 ∷ 0x00 ∷ []) 0 1 ≡ ran zeros 0x1002 1)
     × (at1 (0x82 ∷ 0x90 ∷ []) 0x3000 1 ≡ ran (set zeros 1 0x1002) 0x3000 1)
     × (at1 (0x01 ∷ 0x00 ∷ 0x41 ∷ 0x9C ∷ []) 0 2 ≡ ran zeros 0x1002 1)
     × (at1 (0x01 ∷ 0x00 ∷ 0x03 ∷ 0x20 ∷ 0x00 ∷ 0x00 ∷ []) 0 2 ≡ ran zeros 0x1002 1)
-unfolding zeros ran at1 R.answer R.answerOf R.refusalOf R.refusalFirst R.number R.run R.step R.onward R.fetch load X.exec X.covered X.read X.write N.value D.decode32 D.byClass classOf D.below C.decode16 C.quadrants C.quadrant1 C.table1 C.quadrant2 C.table2 C.unless0 C.miscAlu C.miscAlus C.arith C.ariths C.cr C.crs C.jrMv C.ebreakJalrAdd
+unfolding zeros ran at1 R.answer R.answer-of R.refusal-of R.refusal-first R.number R.run R.step R.onward R.fetch load X.exec X.covered X.read X.write N.value D.decode32 D.by-class class-of D.below C.decode16 C.quadrants C.quadrant1 C.table1 C.quadrant2 C.table2 C.unless0 C.misc-alu C.misc-alus C.arith C.ariths C.cr C.crs C.jr-mv C.ebreak-jalr-add
 marked = (refl, refl, refl, refl, refl, refl, refl)
 
 -- refusals, lowest first
@@ -101,7 +101,7 @@ refusals : (refused [] 0x1001 0 1 ≡ 2)
     × (refused (0x73 ∷ 0x00 ∷ 0x00 ∷ 0x00 ∷ []) 0x1000 1 0 ≡ 5)
     × (refused (0x03 ∷ 0x20 ∷ 0x00 ∷ 0x00 ∷ []) 0x1000 1 0 ≡ 5)
     × (refused (0x01 ∷ 0x00 ∷ []) 0x1000 1 1 ≡ 9)
-unfolding zeros refused R.answer R.answerOf R.refusalOf R.refusalFirst R.number R.fetch load X.covered D.decode32 D.byClass classOf D.below C.decode16 C.quadrants C.quadrant0 C.table0 C.quadrant1 C.table1 C.unless0 C.miscAlu C.miscAlus C.arith C.ariths
+unfolding zeros refused R.answer R.answer-of R.refusal-of R.refusal-first R.number R.fetch load X.covered D.decode32 D.by-class class-of D.below C.decode16 C.quadrants C.quadrant0 C.table0 C.quadrant1 C.table1 C.unless0 C.misc-alu C.misc-alus C.arith C.ariths
 refusals = (refl, refl, refl, refl, refl, refl, refl, refl, refl)
 
 -- 65 no-ops under the limit 65
@@ -110,5 +110,5 @@ nops zero = []
 nops (suc n) = 0x01 ∷ 0x00 ∷ nops n
 
 clamped : R.answer (nops 65) (R.hart zeros 0x1000) 65 false ≡ ran zeros 0x1080 64
-unfolding zeros nops ran R.answer R.answerOf R.refusalOf R.refusalFirst R.number R.run R.step R.onward R.fetch load X.exec X.covered X.read X.write N.value C.decode16 C.quadrants C.quadrant1 C.table1
+unfolding zeros nops ran R.answer R.answer-of R.refusal-of R.refusal-first R.number R.run R.step R.onward R.fetch load X.exec X.covered X.read X.write N.value C.decode16 C.quadrants C.quadrant1 C.table1
 clamped = refl

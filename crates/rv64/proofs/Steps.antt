@@ -7,9 +7,9 @@ use native.Mathlib.Omega as N
 use lib.Dec.{ltb, eqb}
 use borrow.Author.Tests.{ne-eqb}
 use Rattle.isa.specs.declared.classes.Class.{Class}
-use Rattle.isa.specs.Classes.{classOf}
+use Rattle.isa.specs.Classes.{class-of}
 use Rattle.word.specs.Word.{add}
-use Rattle.isa.specs.Formats.{inst, rd, rs1, rs2, funct3, immB, highReg, lowReg}
+use Rattle.isa.specs.Formats.{inst, rd, rs1, rs2, funct3, b-imm, high-reg, low-reg}
 use Rattle.rv64.specs.declared.alu.Alu.{Alu}
 use Rattle.rv64.specs.declared.alu.Cond.{Cond}
 use Rattle.rv64.specs.declared.decode.Instr.{Instr}
@@ -65,23 +65,23 @@ module _ (w pc : ℕ) (x : List ℕ) where
   unfolding S.put S.applied exec
   op t = table 4 (rd w) _ _ (omega N.arith) t (D.funct10 w) (D.reg w) (λ k. refl) _ _ refl
 
-  pub op-imm : S.Gives (S.put (S.opImm w (read x (rs1 w))) (rd w)) (D.opImm w) 4 pc x
-  unfolding S.opImm S.shiftImm D.opImm D.shiftImm S.put S.applied exec
+  pub op-imm : S.Gives (S.put (S.op-imm w (read x (rs1 w))) (rd w)) (D.op-imm w) 4 pc x
+  unfolding S.op-imm S.shift-imm D.op-imm D.shift-imm S.put S.applied exec
   op-imm =
       table 4 (rd w) _ _ (omega N.arith) D.imms (funct3 w) (D.imm w) (λ k. refl) _ _
       (table 4 (rd w) _ _ (omega N.arith) D.shifts (inst 31 26 w * 8 + funct3 w) (D.shift w) (λ k. refl) _ _ refl .1)
 
-  pub op-imm-32 : S.Gives (S.put (S.opImm32 w (read x (rs1 w))) (rd w)) (D.opImm32 w) 4 pc x
-  unfolding S.opImm32 S.shiftImm32 D.opImm32 D.shiftImm32 S.put S.applied exec
+  pub op-imm-32 : S.Gives (S.put (S.op-imm-32 w (read x (rs1 w))) (rd w)) (D.op-imm-32 w) 4 pc x
+  unfolding S.op-imm-32 S.shift-imm-32 D.op-imm-32 D.shift-imm-32 S.put S.applied exec
   op-imm-32 =
       table 4 (rd w) _ _ (omega N.arith) D.imms32 (funct3 w) (D.imm w) (λ k. refl) _ _
       (table 4 (rd w) _ _ (omega N.arith) D.shifts32 (D.funct10 w) (D.shiftw w) (λ k. refl) _ _ refl .1)
 
-  pub branch : S.Gives (S.branched (funct3 w) (read x (rs1 w)) (read x (rs2 w)) (add pc (immB w)) (add pc 4)) (D.branch w) 4 pc x
+  pub branch : S.Gives (S.branched (funct3 w) (read x (rs1 w)) (read x (rs2 w)) (add pc (b-imm w)) (add pc 4)) (D.branch w) 4 pc x
   unfolding S.branched D.branch S.applied exec
   branch = (
     table-sets _ _ D.branches (funct3 w) (λ k. omega N.arith) (omega N.arith),
-    both (λ (e : Effect). S.applied e (add pc 4) x) (λ (i : Instr). exec i 4 pc x) (λ (k : Cond). S.ended (taken k (read x (rs1 w)) (read x (rs2 w))) (add pc (immB w)) (add pc 4)) (D.on w) D.branches (funct3 w)
+    both (λ (e : Effect). S.applied e (add pc 4) x) (λ (i : Instr). exec i 4 pc x) (λ (k : Cond). S.ended (taken k (read x (rs1 w)) (read x (rs2 w))) (add pc (b-imm w)) (add pc 4)) (D.on w) D.branches (funct3 w)
         (λ k. refl) refl,
   )
 
@@ -94,11 +94,11 @@ module _ (w pc : ℕ) (x : List ℕ) where
   done-by e = S.applied e (add pc 4) x
 
   abbrev done : Class → Step
-  done k = exec (D.byClass k w) 4 pc x
+  done k = exec (D.by-class k w) 4 pc x
 
   -- where the opcode is none that the stepper's `match` has before it
   pub other : (P : Type 0) → Missed P computing (w % 128) → S.Gives (S.other w) (D.decode32 w) 4 pc x
-  unfolding S.other S.others S.applied exec D.decode32 D.byClass classOf
+  unfolding S.other S.others S.applied exec D.decode32 D.by-class class-of
   other P h =
       let load = below 7 Instr.Helper Effect.Helper (omega N.arith) refl in
       let misc = below 2 Instr.Nop Effect.Next (omega N.arith) refl in
@@ -109,9 +109,9 @@ module _ (w pc : ℕ) (x : List ℕ) where
       )
 
   -- C.SUB and the others of its group
-  pub arith : S.Gives (S.put (S.computed C.ariths (inst 12 12 w * 4 + inst 6 5 w) (read x (highReg w)) (read x (lowReg w)) Computed.Reserved) (highReg w)) (C.arith w) 2 pc x
+  pub arith : S.Gives (S.put (S.computed C.ariths (inst 12 12 w * 4 + inst 6 5 w) (read x (high-reg w)) (read x (low-reg w)) Computed.Reserved) (high-reg w)) (C.arith w) 2 pc x
   unfolding S.put S.applied exec C.arith
-  arith = table 2 (highReg w) _ _ (omega N.arith) C.ariths (inst 12 12 w * 4 + inst 6 5 w) (C.reg w) (λ k. refl) _ _ refl
+  arith = table 2 (high-reg w) _ _ (omega N.arith) C.ariths (inst 12 12 w * 4 + inst 6 5 w) (C.reg w) (λ k. refl) _ _ refl
 
   pub unless : (n : ℕ) (i : Instr) (e : Effect) → S.Gives e i 2 pc x → S.Gives (cond (eqb n 0) Effect.Uncovered e) (C.unless0 n i) 2 pc x
   unfolding C.unless0 S.applied exec

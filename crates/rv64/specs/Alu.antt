@@ -27,11 +27,11 @@ quotient least x y = cond (eqb y 0) (2 ^ 64 - 1) (cond (overflows least x y) x (
 unfoldable pub remainder : ℕ → ℕ → ℕ → ℕ
 remainder least x y = cond (eqb y 0) x (cond (overflows least x y) 0 (srem x y))
 
-unfoldable pub quotientU : ℕ → ℕ → ℕ → ℕ
-quotientU most x y = cond (eqb y 0) most (x / y)
+unfoldable pub quotient-u : ℕ → ℕ → ℕ → ℕ
+quotient-u most x y = cond (eqb y 0) most (x / y)
 
-unfoldable pub remainderU : ℕ → ℕ → ℕ
-remainderU x y = cond (eqb y 0) x (x % y)
+unfoldable pub remainder-u : ℕ → ℕ → ℕ
+remainder-u x y = cond (eqb y 0) x (x % y)
 
 -- a shift's count is the low six bits of its second operand, or the low five in a W instruction
 unfoldable pub value : Alu → ℕ → ℕ → ℕ
@@ -52,9 +52,9 @@ value Alu.Mulh x y = mulh x y
 value Alu.Mulhsu x y = mulhsu x y
 value Alu.Mulhu x y = mulhu x y
 value Alu.Div x y = quotient (2 ^ 63) x y
-value Alu.Divu x y = quotientU (2 ^ 64 - 1) x y
+value Alu.Divu x y = quotient-u (2 ^ 64 - 1) x y
 value Alu.Rem x y = remainder (2 ^ 63) x y
-value Alu.Remu x y = remainderU x y
+value Alu.Remu x y = remainder-u x y
 -- RV64I, W
 value Alu.Addw x y = sextw (add x y)
 value Alu.Subw x y = sextw (sub x y)
@@ -64,9 +64,9 @@ value Alu.Sraw x y = sextw (asr (sextw x) (y % 32))
 -- M, W
 value Alu.Mulw x y = sextw (mul x y)
 value Alu.Divw x y = sextw (quotient (2 ^ 64 - 2 ^ 31) (sextw x) (sextw y))
-value Alu.Divuw x y = sextw (quotientU (2 ^ 32 - 1) (x % 2 ^ 32) (y % 2 ^ 32))
+value Alu.Divuw x y = sextw (quotient-u (2 ^ 32 - 1) (x % 2 ^ 32) (y % 2 ^ 32))
 value Alu.Remw x y = sextw (remainder (2 ^ 64 - 2 ^ 31) (sextw x) (sextw y))
-value Alu.Remuw x y = sextw (remainderU (x % 2 ^ 32) (y % 2 ^ 32))
+value Alu.Remuw x y = sextw (remainder-u (x % 2 ^ 32) (y % 2 ^ 32))
 
 unfoldable pub taken : Cond → ℕ → ℕ → Bool
 taken Cond.Eq x y = eqb x y

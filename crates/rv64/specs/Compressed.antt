@@ -5,7 +5,7 @@ use mathlib.Core.List.{[], _∷_}
 use Prim.Native.Nat.{ℕ, _+_, _*_, _%_}
 use lib.Dec.{eqb}
 use Rattle.word.specs.Word.{shl}
-use Rattle.isa.specs.Formats.{inst, rd, lowReg, highReg, immCIW, immCI, shamtC, immCI16, immCJ, immCB}
+use Rattle.isa.specs.Formats.{inst, rd, low-reg, high-reg, ciw-imm, ci-imm, shamt-c, ci16-imm, cj-imm, cb-imm}
 use Rattle.rv64.specs.declared.alu.Alu.{Alu}
 use Rattle.rv64.specs.declared.alu.Cond.{Cond}
 use Rattle.rv64.specs.declared.decode.Instr.{Instr}
@@ -29,7 +29,7 @@ itself i = i
 
 unfoldable pub table0 : ℕ → Table Instr
 table0 w =
-    (0b000, unless0 (immCIW w) (Instr.OpImm Alu.Add (lowReg w) 2 (immCIW w)))
+    (0b000, unless0 (ciw-imm w) (Instr.OpImm Alu.Add (low-reg w) 2 (ciw-imm w)))
     ∷ (0b010, Instr.Helper)
     ∷ (0b011, Instr.Helper)
     ∷ (0b110, Instr.Helper)
@@ -43,7 +43,7 @@ quadrant0 w = lookup (table0 w) (funct3 w) itself Instr.Uncovered
 
 -- C.SUB, C.XOR, C.OR, C.AND, C.SUBW, C.ADDW, by inst[12] and inst[6:5]
 abbrev pub reg : ℕ → Alu → Instr
-reg w k = Instr.Op k (highReg w) (highReg w) (lowReg w)
+reg w k = Instr.Op k (high-reg w) (high-reg w) (low-reg w)
 
 unfoldable pub ariths : Table Alu
 ariths =
@@ -59,34 +59,34 @@ unfoldable pub arith : ℕ → Instr
 arith w = lookup ariths (inst 12 12 w * 4 + inst 6 5 w) (reg w) Instr.Uncovered
 
 -- by inst[11:10]: C.SRLI, C.SRAI, C.ANDI, and those above
-unfoldable pub miscAlus : ℕ → Table Instr
-miscAlus w =
-    (0b00, Instr.OpImm Alu.Srl (highReg w) (highReg w) (shamtC w))
-    ∷ (0b01, Instr.OpImm Alu.Sra (highReg w) (highReg w) (shamtC w))
-    ∷ (0b10, Instr.OpImm Alu.And (highReg w) (highReg w) (immCI w))
+unfoldable pub misc-alus : ℕ → Table Instr
+misc-alus w =
+    (0b00, Instr.OpImm Alu.Srl (high-reg w) (high-reg w) (shamt-c w))
+    ∷ (0b01, Instr.OpImm Alu.Sra (high-reg w) (high-reg w) (shamt-c w))
+    ∷ (0b10, Instr.OpImm Alu.And (high-reg w) (high-reg w) (ci-imm w))
     ∷ (0b11, arith w)
     ∷ []
 
-unfoldable pub miscAlu : ℕ → Instr
-miscAlu w = lookup (miscAlus w) (inst 11 10 w) itself Instr.Uncovered
+unfoldable pub misc-alu : ℕ → Instr
+misc-alu w = lookup (misc-alus w) (inst 11 10 w) itself Instr.Uncovered
 
 -- C.ADDI16SP where rd is 2, else C.LUI; both reserved with the immediate 0, C.LUI refused with rd 0
-unfoldable pub luiAddi16sp : ℕ → Instr
-luiAddi16sp w =
-    cond (eqb (rd w) 2) (unless0 (immCI16 w) (Instr.OpImm Alu.Add 2 2 (immCI16 w)))
-    (unless0 (rd w) (unless0 (immCI w) (Instr.Lui (rd w) (shl (immCI w) 12))))
+unfoldable pub lui-addi16sp : ℕ → Instr
+lui-addi16sp w =
+    cond (eqb (rd w) 2) (unless0 (ci16-imm w) (Instr.OpImm Alu.Add 2 2 (ci16-imm w)))
+    (unless0 (rd w) (unless0 (ci-imm w) (Instr.Lui (rd w) (shl (ci-imm w) 12))))
 
 -- C.NOP and C.ADDI, C.ADDIW (reserved with rd 0), C.LI, C.ADDI16SP and C.LUI, those above, C.J, C.BEQZ, C.BNEZ
 unfoldable pub table1 : ℕ → Table Instr
 table1 w =
-    (0b000, Instr.OpImm Alu.Add (rd w) (rd w) (immCI w))
-    ∷ (0b001, unless0 (rd w) (Instr.OpImm Alu.Addw (rd w) (rd w) (immCI w)))
-    ∷ (0b010, Instr.OpImm Alu.Add (rd w) 0 (immCI w))
-    ∷ (0b011, luiAddi16sp w)
-    ∷ (0b100, miscAlu w)
-    ∷ (0b101, Instr.Jal 0 (immCJ w))
-    ∷ (0b110, Instr.Branch Cond.Eq (highReg w) 0 (immCB w))
-    ∷ (0b111, Instr.Branch Cond.Ne (highReg w) 0 (immCB w))
+    (0b000, Instr.OpImm Alu.Add (rd w) (rd w) (ci-imm w))
+    ∷ (0b001, unless0 (rd w) (Instr.OpImm Alu.Addw (rd w) (rd w) (ci-imm w)))
+    ∷ (0b010, Instr.OpImm Alu.Add (rd w) 0 (ci-imm w))
+    ∷ (0b011, lui-addi16sp w)
+    ∷ (0b100, misc-alu w)
+    ∷ (0b101, Instr.Jal 0 (cj-imm w))
+    ∷ (0b110, Instr.Branch Cond.Eq (high-reg w) 0 (cb-imm w))
+    ∷ (0b111, Instr.Branch Cond.Ne (high-reg w) 0 (cb-imm w))
     ∷ []
 
 unfoldable pub quadrant1 : ℕ → Instr
@@ -95,22 +95,22 @@ quadrant1 w = lookup (table1 w) (funct3 w) itself Instr.Uncovered
 -- ---- quadrant 2; e: C.EBREAK does nothing
 
 -- C.JR (reserved with rs1 0) where rs2 is 0, else C.MV (refused with rd 0)
-unfoldable pub jrMv : ℕ → Instr
-jrMv w =
+unfoldable pub jr-mv : ℕ → Instr
+jr-mv w =
     cond (eqb (rs2 w) 0) (unless0 (rd w) (Instr.Jalr 0 (rd w) 0))
     (unless0 (rd w) (Instr.Op Alu.Add (rd w) 0 (rs2 w)))
 
 -- C.EBREAK where both are 0, C.JALR where rs2 is 0, else C.ADD (refused with rd 0)
-unfoldable pub ebreakJalrAdd : Bool → ℕ → Instr
-ebreakJalrAdd e w =
+unfoldable pub ebreak-jalr-add : Bool → ℕ → Instr
+ebreak-jalr-add e w =
     cond (eqb (rs2 w) 0) (cond (eqb (rd w) 0) (cond e Instr.Nop Instr.Uncovered) (Instr.Jalr 1 (rd w) 0))
     (unless0 (rd w) (Instr.Op Alu.Add (rd w) (rd w) (rs2 w)))
 
 -- by inst[12]
 unfoldable pub crs : Bool → ℕ → Table Instr
 crs e w =
-    (0b0, jrMv w)
-    ∷ (0b1, ebreakJalrAdd e w)
+    (0b0, jr-mv w)
+    ∷ (0b1, ebreak-jalr-add e w)
     ∷ []
 
 unfoldable pub cr : Bool → ℕ → Instr
@@ -119,7 +119,7 @@ cr e w = lookup (crs e w) (inst 12 12 w) itself Instr.Uncovered
 -- C.SLLI (refused with rd 0), those above; C.LWSP, C.LDSP, C.SWSP, C.SDSP are a helper's
 unfoldable pub table2 : Bool → ℕ → Table Instr
 table2 e w =
-    (0b000, unless0 (rd w) (Instr.OpImm Alu.Sll (rd w) (rd w) (shamtC w)))
+    (0b000, unless0 (rd w) (Instr.OpImm Alu.Sll (rd w) (rd w) (shamt-c w)))
     ∷ (0b010, Instr.Helper)
     ∷ (0b011, Instr.Helper)
     ∷ (0b100, cr e w)

@@ -5,8 +5,8 @@ use mathlib.Core.List.{List, [], _∷_}
 use Prim.Native.Nat.{ℕ, _+_, _*_}
 use lib.Dec.{ltb, eqb}
 use Rattle.isa.specs.declared.classes.Class.{Class}
-use Rattle.isa.specs.Classes.{classOf}
-use Rattle.isa.specs.Formats.{inst, opcode, rd, funct3, rs1, rs2, funct7, immI, immB, immU, immJ}
+use Rattle.isa.specs.Classes.{class-of}
+use Rattle.isa.specs.Formats.{inst, opcode, rd, funct3, rs1, rs2, funct7, i-imm, b-imm, u-imm, j-imm}
 use Rattle.rv64.specs.declared.alu.Alu.{Alu}
 use Rattle.rv64.specs.declared.alu.Cond.{Cond}
 use Rattle.rv64.specs.declared.decode.Instr.{Instr}
@@ -111,7 +111,7 @@ abbrev pub reg : ℕ → Alu → Instr
 reg w k = Instr.Op k (rd w) (rs1 w) (rs2 w)
 
 abbrev pub imm : ℕ → Alu → Instr
-imm w k = Instr.OpImm k (rd w) (rs1 w) (immI w)
+imm w k = Instr.OpImm k (rd w) (rs1 w) (i-imm w)
 
 -- shamt[5:0], and shamt[4:0] in a W instruction
 abbrev pub shift : ℕ → Alu → Instr
@@ -121,7 +121,7 @@ abbrev pub shiftw : ℕ → Alu → Instr
 shiftw w k = Instr.OpImm k (rd w) (rs1 w) (inst 24 20 w)
 
 abbrev pub on : ℕ → Cond → Instr
-on w k = Instr.Branch k (rs1 w) (rs2 w) (immB w)
+on w k = Instr.Branch k (rs1 w) (rs2 w) (b-imm w)
 
 unfoldable pub op : ℕ → Instr
 op w = lookup ops (funct10 w) (reg w) Instr.Uncovered
@@ -129,17 +129,17 @@ op w = lookup ops (funct10 w) (reg w) Instr.Uncovered
 unfoldable pub op32 : ℕ → Instr
 op32 w = lookup ops32 (funct10 w) (reg w) Instr.Uncovered
 
-unfoldable pub shiftImm : ℕ → Instr
-shiftImm w = lookup shifts (inst 31 26 w * 8 + funct3 w) (shift w) Instr.Uncovered
+unfoldable pub shift-imm : ℕ → Instr
+shift-imm w = lookup shifts (inst 31 26 w * 8 + funct3 w) (shift w) Instr.Uncovered
 
-unfoldable pub opImm : ℕ → Instr
-opImm w = lookup imms (funct3 w) (imm w) (shiftImm w)
+unfoldable pub op-imm : ℕ → Instr
+op-imm w = lookup imms (funct3 w) (imm w) (shift-imm w)
 
-unfoldable pub shiftImm32 : ℕ → Instr
-shiftImm32 w = lookup shifts32 (funct10 w) (shiftw w) Instr.Uncovered
+unfoldable pub shift-imm-32 : ℕ → Instr
+shift-imm-32 w = lookup shifts32 (funct10 w) (shiftw w) Instr.Uncovered
 
-unfoldable pub opImm32 : ℕ → Instr
-opImm32 w = lookup imms32 (funct3 w) (imm w) (shiftImm32 w)
+unfoldable pub op-imm-32 : ℕ → Instr
+op-imm-32 w = lookup imms32 (funct3 w) (imm w) (shift-imm-32 w)
 
 unfoldable pub branch : ℕ → Instr
 branch w = lookup branches (funct3 w) (on w) Instr.Uncovered
@@ -151,24 +151,24 @@ below w n i = cond (ltb (funct3 w) n) i Instr.Uncovered
 -- by opcode. JALR with any funct3; FENCE and FENCE.I (MISC-MEM, funct3 0 and 1) do nothing; LB, LH, LW, LD, LBU, LHU and
 -- LWU (LOAD, funct3 0 to 6), SB, SH, SW and SD (STORE, funct3 0 to 3), floating-point loads and stores and the atomics
 -- are a helper's (document 01, source readings and rule 4)
-unfoldable pub byClass : Class → ℕ → Instr
-byClass Class.Op w = op w
-byClass Class.OpImm w = opImm w
-byClass Class.Op32 w = op32 w
-byClass Class.OpImm32 w = opImm32 w
-byClass Class.Lui w = Instr.Lui (rd w) (immU w)
-byClass Class.Auipc w = Instr.Auipc (rd w) (immU w)
-byClass Class.Jal w = Instr.Jal (rd w) (immJ w)
-byClass Class.Jalr w = Instr.Jalr (rd w) (rs1 w) (immI w)
-byClass Class.Branch w = branch w
-byClass Class.MiscMem w = below w 2 Instr.Nop
-byClass Class.Load w = below w 7 Instr.Helper
-byClass Class.Store w = below w 4 Instr.Helper
-byClass Class.LoadFp w = Instr.Helper
-byClass Class.StoreFp w = Instr.Helper
-byClass Class.Amo w = Instr.Helper
-byClass Class.System w = Instr.Uncovered
-byClass Class.Other w = Instr.Uncovered
+unfoldable pub by-class : Class → ℕ → Instr
+by-class Class.Op w = op w
+by-class Class.OpImm w = op-imm w
+by-class Class.Op32 w = op32 w
+by-class Class.OpImm32 w = op-imm-32 w
+by-class Class.Lui w = Instr.Lui (rd w) (u-imm w)
+by-class Class.Auipc w = Instr.Auipc (rd w) (u-imm w)
+by-class Class.Jal w = Instr.Jal (rd w) (j-imm w)
+by-class Class.Jalr w = Instr.Jalr (rd w) (rs1 w) (i-imm w)
+by-class Class.Branch w = branch w
+by-class Class.MiscMem w = below w 2 Instr.Nop
+by-class Class.Load w = below w 7 Instr.Helper
+by-class Class.Store w = below w 4 Instr.Helper
+by-class Class.LoadFp w = Instr.Helper
+by-class Class.StoreFp w = Instr.Helper
+by-class Class.Amo w = Instr.Helper
+by-class Class.System w = Instr.Uncovered
+by-class Class.Other w = Instr.Uncovered
 
 unfoldable pub decode32 : ℕ → Instr
-decode32 w = byClass (classOf (opcode w)) w
+decode32 w = by-class (class-of (opcode w)) w

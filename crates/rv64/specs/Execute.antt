@@ -28,7 +28,7 @@ next x pc = record { x = x; flow = Flow.Next pc }
 abbrev pub ended : List ℕ → ℕ → Step
 ended x pc = record { x = x; flow = Flow.Ended pc }
 
--- an instruction of n bytes at pc. JAL and JALR put the address behind them in rd; JALR reads rs1 before that, and clears
+-- an instruction of n bytes at pc. JAL and JALR put the address after them in rd; JALR reads rs1 before that, and clears
 -- bit 0 of the sum. A jump or a branch ends the block (document 01, rule 5)
 unfoldable pub exec : Instr → ℕ → ℕ → List ℕ → Step
 exec (Instr.Op k rd rs1 rs2) n pc x = next (write x rd (value k (read x rs1) (read x rs2))) (add pc n)

@@ -7,7 +7,7 @@ use Prim.Native.Nat.{ℕ, _+_, _*_, _%_, _<_}
 use lib.Dec.{ltb, eqb}
 use lib.ListN.{length}
 use Rattle.word.specs.Word.{add}
-use Rattle.isa.specs.Formats.{inst, opcode, funct3, immI}
+use Rattle.isa.specs.Formats.{inst, opcode, funct3, i-imm}
 use Rattle.rv64.specs.declared.alu.Alu.{Alu}
 use Rattle.rv64.specs.declared.alu.Cond.{Cond}
 use Rattle.rv64.specs.declared.decode.Instr.{Instr}
@@ -56,17 +56,17 @@ Gives e i n pc x = (sets e < 32) × (applied e (add pc n) x ≡ exec i n pc x)
 abbrev pub computed : Table Alu → ℕ → ℕ → ℕ → Computed → Computed
 computed t n x y other = lookup t n (λ (k : Alu). Computed.Value (value k x y)) other
 
-unfoldable pub shiftImm : ℕ → ℕ → Computed
-shiftImm w x = computed shifts (inst 31 26 w * 8 + funct3 w) x (inst 25 20 w) Computed.Reserved
+unfoldable pub shift-imm : ℕ → ℕ → Computed
+shift-imm w x = computed shifts (inst 31 26 w * 8 + funct3 w) x (inst 25 20 w) Computed.Reserved
 
-unfoldable pub opImm : ℕ → ℕ → Computed
-opImm w x = computed imms (funct3 w) x (immI w) (shiftImm w x)
+unfoldable pub op-imm : ℕ → ℕ → Computed
+op-imm w x = computed imms (funct3 w) x (i-imm w) (shift-imm w x)
 
-unfoldable pub shiftImm32 : ℕ → ℕ → Computed
-shiftImm32 w x = computed shifts32 (funct10 w) x (inst 24 20 w) Computed.Reserved
+unfoldable pub shift-imm-32 : ℕ → ℕ → Computed
+shift-imm-32 w x = computed shifts32 (funct10 w) x (inst 24 20 w) Computed.Reserved
 
-unfoldable pub opImm32 : ℕ → ℕ → Computed
-opImm32 w x = computed imms32 (funct3 w) x (immI w) (shiftImm32 w x)
+unfoldable pub op-imm-32 : ℕ → ℕ → Computed
+op-imm-32 w x = computed imms32 (funct3 w) x (i-imm w) (shift-imm-32 w x)
 
 -- a computed value in rd
 unfoldable pub put : Computed → ℕ → Effect
@@ -121,12 +121,12 @@ after Fetched.Missing pc x = x
 after (Fetched.Found i size) pc x = exec i size pc x .x
 
 -- the refusal of a run that stopped at its first instruction
-unfoldable pub atFirst : Stop → Refusal
-atFirst Stop.NotFetched = Refusal.NotFetched
-atFirst Stop.Limit = Refusal.NotCovered
-atFirst Stop.Ended = Refusal.NotCovered
-atFirst Stop.Helper = Refusal.NotCovered
-atFirst Stop.Uncovered = Refusal.NotCovered
+unfoldable pub at-first : Stop → Refusal
+at-first Stop.NotFetched = Refusal.NotFetched
+at-first Stop.Limit = Refusal.NotCovered
+at-first Stop.Ended = Refusal.NotCovered
+at-first Stop.Helper = Refusal.NotCovered
+at-first Stop.Uncovered = Refusal.NotCovered
 
 abbrev pub refused : Refusal → List ℕ → Answer
 refused q x = record { refusal = q; hart = hart x 0; count = 0 }

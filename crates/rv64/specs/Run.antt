@@ -77,23 +77,23 @@ number Refusal.NotFetched = 4
 number Refusal.NotCovered = 5
 number Refusal.RegisterZero = 9
 
-unfoldable pub refusalFirst : Fetched → ℕ → Refusal
-refusalFirst Fetched.Missing x0 = Refusal.NotFetched
-refusalFirst (Fetched.Found i size) x0 =
+unfoldable pub refusal-first : Fetched → ℕ → Refusal
+refusal-first Fetched.Missing x0 = Refusal.NotFetched
+refusal-first (Fetched.Found i size) x0 =
     cond (X.covered i) (cond (eqb x0 0) Refusal.Accepted Refusal.RegisterZero) Refusal.NotCovered
 
 -- the lowest that applies; x0: what register 0 holds
-unfoldable pub refusalOf : List ℕ → ℕ → ℕ → Bool → ℕ → Refusal
-refusalOf guest pc limit e x0 =
+unfoldable pub refusal-of : List ℕ → ℕ → ℕ → Bool → ℕ → Refusal
+refusal-of guest pc limit e x0 =
     cond (eqb limit 0) Refusal.LimitZero
-    (cond (not (eqb (pc % 2) 0)) Refusal.OddPc (refusalFirst (fetch e guest) x0))
+    (cond (not (eqb (pc % 2) 0)) Refusal.OddPc (refusal-first (fetch e guest) x0))
 
 -- where refused, the registers as they were, and every other number 0
-unfoldable pub answerOf : Refusal → List ℕ → Ran → Answer
-answerOf q x r =
+unfoldable pub answer-of : Refusal → List ℕ → Ran → Answer
+answer-of q x r =
     cond (eqb (number q) 0) (record { refusal = q; hart = r .hart; count = r .count })
     (record { refusal = q; hart = hart x 0; count = 0 })
 
 unfoldable pub answer : List ℕ → Hart → ℕ → Bool → Answer
 answer guest h limit e =
-    answerOf (refusalOf guest (h .pc) limit e (getD (h .x) 0 0)) (h .x) (run e (clamped limit) 0 guest h)
+    answer-of (refusal-of guest (h .pc) limit e (getD (h .x) 0 0)) (h .x) (run e (clamped limit) 0 guest h)

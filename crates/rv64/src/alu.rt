@@ -92,7 +92,7 @@ pub fn remainder(least: u64, x: u64, y: u64) -> u64
 
 // The unsigned quotient; most is the greatest number of the width.
 pub fn quotient_u(most: u64, x: u64, y: u64) -> u64
-    ensures { λ r. ⌜ r ≡ N.quotientU most x y ⌝ }
+    ensures { λ r. ⌜ r ≡ N.quotient-u most x y ⌝ }
 {
     if y == 0 {
         return most;
@@ -101,7 +101,7 @@ pub fn quotient_u(most: u64, x: u64, y: u64) -> u64
 }
 
 pub fn remainder_u(x: u64, y: u64) -> u64
-    ensures { λ r. ⌜ r ≡ N.remainderU x y ⌝ }
+    ensures { λ r. ⌜ r ≡ N.remainder-u x y ⌝ }
 {
     if y == 0 {
         return x;

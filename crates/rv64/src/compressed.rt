@@ -57,7 +57,7 @@ fn arith(w: u16, x: u64, y: u64) -> Computed
 }
 
 fn misc_alu(x: &[u64; 32], w: u16, pc: u64) -> Effect
-    ensures { λ r. ⌜ S.Gives r (C.miscAlu w) 2 pc (now (x .entry)) ⌝ }
+    ensures { λ r. ⌜ S.Gives r (C.misc-alu w) 2 pc (now (x .entry)) ⌝ }
 {
     let d = (w / 128 % 8 + 8) as u32;
     let a = read(x, d);
@@ -74,7 +74,7 @@ fn misc_alu(x: &[u64; 32], w: u16, pc: u64) -> Effect
 
 // C.ADDI16SP and C.LUI.
 fn lui_addi16sp(x: &[u64; 32], w: u16, pc: u64) -> Effect
-    ensures { λ r. ⌜ S.Gives r (C.luiAddi16sp w) 2 pc (now (x .entry)) ⌝ }
+    ensures { λ r. ⌜ S.Gives r (C.lui-addi16sp w) 2 pc (now (x .entry)) ⌝ }
 {
     let d = (w / 128 % 32) as u32;
     if d == 2 {
@@ -88,14 +88,14 @@ fn lui_addi16sp(x: &[u64; 32], w: u16, pc: u64) -> Effect
 
 // Whether the register of C.BEQZ and C.BNEZ holds 0.
 fn is_zero(x: &[u64; 32], w: u16) -> bool
-    ensures { λ r. ⌜ r ≡ eqb (X.read (now (x .entry)) (F.highReg w)) 0 ⌝ }
+    ensures { λ r. ⌜ r ≡ eqb (X.read (now (x .entry)) (F.high-reg w)) 0 ⌝ }
 {
     read(x, (w / 128 % 8 + 8) as u32) == 0
 }
 
 // C.BEQZ and C.BNEZ.
 fn branch(taken: bool, w: u16, pc: u64) -> Effect
-    ensures { λ r. ⌜ r ≡ S.ended taken (W.add pc (F.immCB w)) (W.add pc 2) ⌝ }
+    ensures { λ r. ⌜ r ≡ S.ended taken (W.add pc (F.cb-imm w)) (W.add pc 2) ⌝ }
 {
     let to = std::num::wrapping_add_u64(pc, isa::decode::imm_cb(w));
     ended(taken, to, std::num::wrapping_add_u64(pc, 2))
@@ -125,7 +125,7 @@ fn quadrant1(x: &[u64; 32], w: u16, pc: u64) -> Effect
 
 // C.JR and C.MV.
 fn jr_mv(x: &[u64; 32], w: u16, pc: u64) -> Effect
-    ensures { λ r. ⌜ S.Gives r (C.jrMv w) 2 pc (now (x .entry)) ⌝ }
+    ensures { λ r. ⌜ S.Gives r (C.jr-mv w) 2 pc (now (x .entry)) ⌝ }
 {
     let d = (w / 128 % 32) as u32;
     let s = (w / 4 % 32) as u32;
@@ -139,7 +139,7 @@ fn jr_mv(x: &[u64; 32], w: u16, pc: u64) -> Effect
 
 // C.EBREAK, C.JALR and C.ADD.
 fn ebreak_jalr_add(x: &[u64; 32], w: u16, ignore_ebreak: bool, pc: u64) -> Effect
-    ensures { λ r. ⌜ S.Gives r (C.ebreakJalrAdd «ignore_ebreak» w) 2 pc (now (x .entry)) ⌝ }
+    ensures { λ r. ⌜ S.Gives r (C.ebreak-jalr-add «ignore_ebreak» w) 2 pc (now (x .entry)) ⌝ }
 {
     let d = (w / 128 % 32) as u32;
     let s = (w / 4 % 32) as u32;

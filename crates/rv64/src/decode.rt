@@ -134,7 +134,7 @@ fn op_32(w: u32, x: u64, y: u64) -> Computed
 
 // The shifts of OP-IMM, by the low six bits of the immediate.
 fn shift_imm(w: u32, x: u64) -> Computed
-    ensures { λ r. ⌜ r ≡ S.shiftImm w x ⌝ }
+    ensures { λ r. ⌜ r ≡ S.shift-imm w x ⌝ }
 {
     let shamt = (w / 0x10_0000 % 64) as u64;
     match w / 0x400_0000 % 64 * 8 + w / 4096 % 8 {
@@ -146,7 +146,7 @@ fn shift_imm(w: u32, x: u64) -> Computed
 }
 
 fn op_imm(w: u32, x: u64) -> Computed
-    ensures { λ r. ⌜ r ≡ S.opImm w x ⌝ }
+    ensures { λ r. ⌜ r ≡ S.op-imm w x ⌝ }
 {
     let imm = isa::decode::imm_i(w);
     match w / 4096 % 8 {
@@ -162,7 +162,7 @@ fn op_imm(w: u32, x: u64) -> Computed
 
 // The shifts of OP-IMM-32, by the low five bits of the immediate.
 fn shift_imm_32(w: u32, x: u64) -> Computed
-    ensures { λ r. ⌜ r ≡ S.shiftImm32 w x ⌝ }
+    ensures { λ r. ⌜ r ≡ S.shift-imm-32 w x ⌝ }
 {
     let shamt = (w / 0x10_0000 % 32) as u64;
     match funct10(w) {
@@ -174,7 +174,7 @@ fn shift_imm_32(w: u32, x: u64) -> Computed
 }
 
 fn op_imm_32(w: u32, x: u64) -> Computed
-    ensures { λ r. ⌜ r ≡ S.opImm32 w x ⌝ }
+    ensures { λ r. ⌜ r ≡ S.op-imm-32 w x ⌝ }
 {
     match w / 4096 % 8 {
         0b000 => Computed::Value(sextw(std::num::wrapping_add_u64(x, isa::decode::imm_i(w)))),
@@ -224,7 +224,7 @@ fn other(w: u32) -> Effect
     }
 }
 
-// What the instruction of the word w at pc does; next is the address behind it.
+// What the instruction of the word w at pc does; next is the address after it.
 fn effect32(x: &[u64; 32], w: u32, pc: u64, next: u64) -> Effect
     requires { ⌜ next ≡ W.add pc 4 ⌝ }
     ensures { λ r. ⌜ S.Gives r (D.decode32 w) 4 pc (now (x .entry)) ⌝ }

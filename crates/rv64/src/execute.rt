@@ -5,9 +5,9 @@ ghost use Rattle.rv64.specs.Execute as X;
 ghost use Rattle.rv64.specs.Parts as S;
 
 pub enum Flow {
-    // on at this PC
+    // goes on at this PC
     Next(u64),
-    // a jump or a branch ended the block; on at this PC
+    // a jump or a branch ended the block; goes on at this PC
     Ended(u64),
     Helper,
     Uncovered,
@@ -21,13 +21,13 @@ pub enum Computed {
 
 // What an instruction does, by the registers before it.
 pub enum Effect {
-    // the register of this number set to this value, and on behind the instruction
+    // the register of this number set to this value, and goes on after the instruction
     Set(u32, u64),
-    // the register of this number set to the address behind the instruction, and the block's end; on at this PC
+    // the register of this number set to the address after the instruction, and the block's end; goes on at this PC
     Link(u32, u64),
-    // the block's end; on at this PC
+    // the block's end; goes on at this PC
     Ended(u64),
-    // on behind the instruction
+    // goes on after the instruction
     Next,
     Helper,
     Uncovered,
@@ -77,7 +77,7 @@ pub fn ended(taken: bool, to: u64, next: u64) -> Effect
     }
 }
 
-// The effect of an instruction on the registers; next is the address behind it.
+// The effect of an instruction on the registers; next is the address after it.
 pub fn apply(x: &mut [u64; 32], e: Effect, next: u64) -> Flow
     requires { ⌜ S.sets e < 32 ⌝ }
     ensures { λ r. ⌜ S.Does (S.applied e next (now (x .entry))) r (now (x .exit)) ⌝ }

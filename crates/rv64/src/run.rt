@@ -32,9 +32,9 @@ pub enum Encoding {
 // What a step does.
 pub enum Stepped {
     NotFetched,
-    // on at this PC, behind an instruction of this many bytes
+    // goes on at this PC, after an instruction of this many bytes
     Next(u64, usize),
-    // a jump or a branch ended the block; on at this PC
+    // a jump or a branch ended the block; goes on at this PC
     Ended(u64),
     Helper,
     Uncovered,
@@ -182,7 +182,7 @@ fn refused(q: Refusal, x: [u64; 32]) -> Answer
 
 // Why a run that stopped before the first instruction's end is refused.
 fn at_first(stop: Stop) -> Refusal
-    ensures { λ r. ⌜ r ≡ S.atFirst stop ⌝ }
+    ensures { λ r. ⌜ r ≡ S.at-first stop ⌝ }
 {
     match stop {
         Stop::NotFetched => Refusal::NotFetched,

@@ -9,8 +9,8 @@ use lib.Dec.{eqb}
 use lib.ListN.{getD}
 use borrow.Author.Tests.{eqb-true, eqb-false, ne-eqb}
 use Rattle.word.specs.Word.{add, shl}
-use Rattle.isa.specs.Formats.{inst, rd, lowReg, highReg, immCIW, immCI, shamtC, immCI16, immCJ, immCB}
-use Rattle.a64_run.specs.Exec.{opValue}
+use Rattle.isa.specs.Formats.{inst, rd, low-reg, high-reg, ciw-imm, ci-imm, shamt-c, ci16-imm, cj-imm, cb-imm}
+use Rattle.a64_run.specs.Exec.{op-value}
 use Rattle.rv64.specs.declared.alu.Alu.{Alu}
 use Rattle.rv64.specs.declared.alu.Cond.{Cond}
 use Rattle.rv64.specs.declared.decode.Instr.{Instr}
@@ -19,13 +19,13 @@ use Rattle.rv64.specs.Execute.{read, write, exec}
 use Rattle.rv64.specs.Compressed as C
 use Rattle.emit_native.specs.declared.EmitFlow.{EmitFlow}
 use Rattle.emit_native.specs.Isa.{not-1}
-use Rattle.emit_native.specs.Calls.{emit, mov-imm64, load, store, and-x, orr-x, Emission, continue, terminate, none, behind, store-rd}
+use Rattle.emit_native.specs.Calls.{emit, mov-imm64, load, store, and-x, orr-x, Emission, continue, terminate, none, calls-first, store-rd}
 use Rattle.emit_native.specs.Decode as J
 use Rattle.emit_native.specs.Instr16 as E
 use Rattle.emit_native.proofs.Decoding.{imm-ci-is, shamt-is, imm-addi4spn-is, imm-addi16sp-is, imm-cj-is, imm-cb-is}
 use Rattle.translation.proofs.Calls.{Host, form-step, call-step, calls-run, scratch, form-fits, written, fits, keeps, all-fit, all-keep, Kept}
 use Rattle.translation.proofs.Alus.{body, body-law}
-use Rattle.translation.proofs.Instrs.{Agrees, nothing, two, body-fine, condition, fork, behind-does, with-constant, fork-does, fork-next, even, read-slot, op-agrees, imm-agrees, lui-agrees, jal-agrees, nop-agrees, uncovered-agrees, helper-agrees}
+use Rattle.translation.proofs.Instrs.{Agrees, nothing, two, body-fine, condition, fork, calls-first-does, with-constant, fork-does, fork-next, even, read-slot, op-agrees, imm-agrees, lui-agrees, jal-agrees, nop-agrees, uncovered-agrees, helper-agrees}
 use Rattle.translation.proofs.Agree32.{digit}
 
 -- the store of a register that is not 0
@@ -92,14 +92,14 @@ module _ (r₀ : ℕ → ℕ) (pc : ℕ) (v : Host) (κ : Kept r₀ true v) (z :
   bz-agrees k a c ha =
       record {
         flow = refl;
-        does = behind-does (load 9 a ∷ mov-imm64 10 0 ∷ []) _ v _ (with-constant a 0 ha (omega arith))
+        does = calls-first-does (load 9 a ∷ mov-imm64 10 0 ∷ []) _ v _ (with-constant a 0 ha (omega arith))
             (unfold calls-run call-step in (fork-does k (add pc c) (add pc 2) (calls-run (load 9 a ∷ mov-imm64 10 0 ∷ []) v) (omega arith) (omega arith)));
         next = rw (read-slot (v .slots) z a)
             (unfold calls-run call-step read in (fork-next k (add pc c) (add pc 2) (calls-run (load 9 a ∷ mov-imm64 10 0 ∷ []) v) (κ .small a) (omega arith)));
       }
 
   jr-agrees : (a : ℕ) → a < 32 → Agrees 2 pc v (Instr.Jalr 0 a 0) (terminate (load 9 a ∷ mov-imm64 10 not-1 ∷ emit (and-x 0 9 10) ∷ []))
-  unfolding exec write all-fit fits form-fits keeps written scratch calls-run call-step form-step opValue
+  unfolding exec write all-fit fits form-fits keeps written scratch calls-run call-step form-step op-value
   jr-agrees a ha =
       record {
         flow = refl;
@@ -110,7 +110,7 @@ module _ (r₀ : ℕ → ℕ) (pc : ℕ) (v : Host) (κ : Kept r₀ true v) (z :
   jalr1-agrees : (a : ℕ) → a < 32
       → Agrees 2 pc v (Instr.Jalr 1 a 0)
       (terminate (load 9 a ∷ mov-imm64 10 not-1 ∷ emit (and-x 11 9 10) ∷ mov-imm64 12 (add pc 2) ∷ store 12 1 ∷ emit (orr-x 0 11 31) ∷ []))
-  unfolding exec write all-fit fits form-fits keeps written scratch calls-run call-step form-step opValue
+  unfolding exec write all-fit fits form-fits keeps written scratch calls-run call-step form-step op-value
   jalr1-agrees a ha =
       record {
         flow = refl;
@@ -137,17 +137,17 @@ module _ (r₀ : ℕ → ℕ) (pc : ℕ) (v : Host) (κ : Kept r₀ true v) (z :
 
   module _ (w : ℕ) (hw : w < 2 ^ 16) where
     -- a register of 8 to 15
-    high-lt : highReg w < 32
+    high-lt : high-reg w < 32
     high-lt = omega arith
 
-    high-is : highReg w ≡ 0 → ⊥
+    high-is : high-reg w ≡ 0 → ⊥
     high-is e = omega arith
 
-    addi4spn-is : Agrees 2 pc v (C.unless0 (immCIW w) (Instr.OpImm Alu.Add (lowReg w) 2 (immCIW w))) (E.addi4spn w)
+    addi4spn-is : Agrees 2 pc v (C.unless0 (ciw-imm w) (Instr.OpImm Alu.Add (low-reg w) 2 (ciw-imm w))) (E.addi4spn w)
     unfolding E.addi4spn body
     addi4spn-is =
         rw (imm-addi4spn-is w)
-        (unless (immCIW w) _ _ (λ n. imm-stored Alu.Add (lowReg w) 2 (immCIW w) (omega arith) (λ e. omega arith) (omega arith) (omega arith)))
+        (unless (ciw-imm w) _ _ (λ n. imm-stored Alu.Add (low-reg w) 2 (ciw-imm w) (omega arith) (λ e. omega arith) (omega arith) (omega arith)))
 
     quadrant0-by : (t : ℕ) → t < 8 → inst 15 13 w ≡ t → Agrees 2 pc v (C.quadrant0 w) (E.quadrant-0 w)
     unfolding C.quadrant0 C.table0 E.quadrant-0
@@ -157,14 +157,14 @@ module _ (r₀ : ℕ → ℕ) (pc : ℕ) (v : Host) (κ : Kept r₀ true v) (z :
         (λ e. rw e no-words) (λ e. rw e no-words) (λ e. rw e helped) (λ e. rw e helped)
 
     -- C.SUB, C.XOR, C.OR, C.AND, C.SUBW, C.ADDW
-    alu-is : (k : Alu) → Agrees 2 pc v (C.reg w k) (continue (load 9 (highReg w) ∷ load 10 (lowReg w) ∷ (body k ++ (store 11 (highReg w) ∷ []))))
-    alu-is k = op-stored k (highReg w) (highReg w) (lowReg w) high-lt high-is high-lt (omega arith)
+    alu-is : (k : Alu) → Agrees 2 pc v (C.reg w k) (continue (load 9 (high-reg w) ∷ load 10 (low-reg w) ∷ (body k ++ (store 11 (high-reg w) ∷ []))))
+    alu-is k = op-stored k (high-reg w) (high-reg w) (low-reg w) high-lt high-is high-lt (omega arith)
 
-    leftover : Agrees 2 pc v Instr.Uncovered (none (load 9 (highReg w) ∷ load 10 (lowReg w) ∷ []))
-    leftover = uncovered-agrees r₀ 2 pc v κ z (load 9 (highReg w) ∷ load 10 (lowReg w) ∷ []) (two (highReg w) (lowReg w) high-lt (omega arith))
+    leftover : Agrees 2 pc v Instr.Uncovered (none (load 9 (high-reg w) ∷ load 10 (low-reg w) ∷ []))
+    leftover = uncovered-agrees r₀ 2 pc v κ z (load 9 (high-reg w) ∷ load 10 (low-reg w) ∷ []) (two (high-reg w) (low-reg w) high-lt (omega arith))
 
     alu-by : (s a : ℕ) → s < 2 → a < 4 → inst 12 12 w ≡ s → inst 6 5 w ≡ a
-        → Agrees 2 pc v (C.arith w) (behind (load 9 (highReg w) ∷ load 10 (lowReg w) ∷ []) (E.c-alu (inst 12 12 w) (inst 6 5 w) (highReg w)))
+        → Agrees 2 pc v (C.arith w) (calls-first (load 9 (high-reg w) ∷ load 10 (low-reg w) ∷ []) (E.c-alu (inst 12 12 w) (inst 6 5 w) (high-reg w)))
     unfolding C.arith C.ariths E.c-alu body
     alu-by zero zero hs ha p q = rw (p, q) (alu-is Alu.Sub)
     alu-by zero (suc zero) hs ha p q = rw (p, q) (alu-is Alu.Xor)
@@ -178,17 +178,17 @@ module _ (r₀ : ℕ → ℕ) (pc : ℕ) (v : Host) (κ : Kept r₀ true v) (z :
     alu-by (suc zero) (suc (suc (suc (suc a)))) hs ha p q = absurd (omega arith)
     alu-by (suc (suc s)) a hs ha p q = absurd (omega arith)
 
-    shift-is : (k : Alu) → Agrees 2 pc v (Instr.OpImm k (highReg w) (highReg w) (shamtC w))
-        (continue (load 9 (highReg w) ∷ mov-imm64 10 (J.shamt w) ∷ (body k ++ (store 11 (highReg w) ∷ []))))
-    shift-is k = rw (shamt-is w) (imm-stored k (highReg w) (highReg w) (shamtC w) high-lt high-is high-lt (omega arith))
+    shift-is : (k : Alu) → Agrees 2 pc v (Instr.OpImm k (high-reg w) (high-reg w) (shamt-c w))
+        (continue (load 9 (high-reg w) ∷ mov-imm64 10 (J.shamt w) ∷ (body k ++ (store 11 (high-reg w) ∷ []))))
+    shift-is k = rw (shamt-is w) (imm-stored k (high-reg w) (high-reg w) (shamt-c w) high-lt high-is high-lt (omega arith))
 
-    andi-is : Agrees 2 pc v (Instr.OpImm Alu.And (highReg w) (highReg w) (immCI w)) (E.c-andi w)
+    andi-is : Agrees 2 pc v (Instr.OpImm Alu.And (high-reg w) (high-reg w) (ci-imm w)) (E.c-andi w)
     unfolding E.c-andi body
-    andi-is = rw (imm-ci-is w) (imm-stored Alu.And (highReg w) (highReg w) (immCI w) high-lt high-is high-lt (omega arith))
+    andi-is = rw (imm-ci-is w) (imm-stored Alu.And (high-reg w) (high-reg w) (ci-imm w) high-lt high-is high-lt (omega arith))
 
     -- by inst[11:10]
-    group-by : (t : ℕ) → t < 4 → inst 11 10 w ≡ t → Agrees 2 pc v (C.miscAlu w) (E.c-group w)
-    unfolding C.miscAlu C.miscAlus E.c-group E.c-srli E.c-srai body
+    group-by : (t : ℕ) → t < 4 → inst 11 10 w ≡ t → Agrees 2 pc v (C.misc-alu w) (E.c-group w)
+    unfolding C.misc-alu C.misc-alus E.c-group E.c-srli E.c-srai body
     group-by zero h e = rw e (shift-is Alu.Srl)
     group-by (suc zero) h e = rw e (shift-is Alu.Sra)
     group-by (suc (suc zero)) h e = rw e andi-is
@@ -196,46 +196,46 @@ module _ (r₀ : ℕ → ℕ) (pc : ℕ) (v : Host) (κ : Kept r₀ true v) (z :
     group-by (suc (suc (suc (suc t)))) h e = absurd (omega arith)
 
     -- C.ADDI and C.NOP, C.LI: nothing is emitted for register 0
-    addi-by : (b : Bool) → eqb (rd w) 0 ≡ b → Agrees 2 pc v (Instr.OpImm Alu.Add (rd w) (rd w) (immCI w)) (E.c-addi w)
+    addi-by : (b : Bool) → eqb (rd w) 0 ≡ b → Agrees 2 pc v (Instr.OpImm Alu.Add (rd w) (rd w) (ci-imm w)) (E.c-addi w)
     unfolding E.c-addi body
-    addi-by true q = rw (imm-ci-is w, eqb-true (rd w) 0 q) (zero-agrees Alu.Add 0 (immCI w))
+    addi-by true q = rw (imm-ci-is w, eqb-true (rd w) 0 q) (zero-agrees Alu.Add 0 (ci-imm w))
     addi-by false q =
-        rw (imm-ci-is w, q) (imm-stored Alu.Add (rd w) (rd w) (immCI w) (omega arith) (eqb-false (rd w) 0 q) (omega arith) (omega arith))
+        rw (imm-ci-is w, q) (imm-stored Alu.Add (rd w) (rd w) (ci-imm w) (omega arith) (eqb-false (rd w) 0 q) (omega arith) (omega arith))
 
-    li-by : (b : Bool) → eqb (rd w) 0 ≡ b → Agrees 2 pc v (Instr.OpImm Alu.Add (rd w) 0 (immCI w)) (E.c-li w)
+    li-by : (b : Bool) → eqb (rd w) 0 ≡ b → Agrees 2 pc v (Instr.OpImm Alu.Add (rd w) 0 (ci-imm w)) (E.c-li w)
     unfolding E.c-li
-    li-by true q = rw (imm-ci-is w, eqb-true (rd w) 0 q) (zero-agrees Alu.Add 0 (immCI w))
-    li-by false q = rw (imm-ci-is w, q) (li-agrees (rd w) (immCI w) (omega arith) (eqb-false (rd w) 0 q) (omega arith))
+    li-by true q = rw (imm-ci-is w, eqb-true (rd w) 0 q) (zero-agrees Alu.Add 0 (ci-imm w))
+    li-by false q = rw (imm-ci-is w, q) (li-agrees (rd w) (ci-imm w) (omega arith) (eqb-false (rd w) 0 q) (omega arith))
 
-    addiw-is : Agrees 2 pc v (C.unless0 (rd w) (Instr.OpImm Alu.Addw (rd w) (rd w) (immCI w))) (E.c-addiw w)
+    addiw-is : Agrees 2 pc v (C.unless0 (rd w) (Instr.OpImm Alu.Addw (rd w) (rd w) (ci-imm w))) (E.c-addiw w)
     unfolding E.c-addiw body
     addiw-is =
-        rw (imm-ci-is w) (unless (rd w) _ _ (λ n. imm-stored Alu.Addw (rd w) (rd w) (immCI w) (omega arith) n (omega arith) (omega arith)))
+        rw (imm-ci-is w) (unless (rd w) _ _ (λ n. imm-stored Alu.Addw (rd w) (rd w) (ci-imm w) (omega arith) n (omega arith) (omega arith)))
 
-    addi16sp-is : Agrees 2 pc v (C.unless0 (immCI16 w) (Instr.OpImm Alu.Add 2 2 (immCI16 w))) (E.c-addi16sp w)
+    addi16sp-is : Agrees 2 pc v (C.unless0 (ci16-imm w) (Instr.OpImm Alu.Add 2 2 (ci16-imm w))) (E.c-addi16sp w)
     unfolding E.c-addi16sp body
     addi16sp-is =
         rw (imm-addi16sp-is w)
-        (unless (immCI16 w) _ _ (λ n. imm-stored Alu.Add 2 2 (immCI16 w) (omega arith) (λ e. omega arith) (omega arith) (omega arith)))
+        (unless (ci16-imm w) _ _ (λ n. imm-stored Alu.Add 2 2 (ci16-imm w) (omega arith) (λ e. omega arith) (omega arith) (omega arith)))
 
-    c-lui-is : Agrees 2 pc v (C.unless0 (rd w) (C.unless0 (immCI w) (Instr.Lui (rd w) (shl (immCI w) 12)))) (E.c-lui w)
+    c-lui-is : Agrees 2 pc v (C.unless0 (rd w) (C.unless0 (ci-imm w) (Instr.Lui (rd w) (shl (ci-imm w) 12)))) (E.c-lui w)
     unfolding E.c-lui
     c-lui-is =
         rw (imm-ci-is w)
-        (unless (rd w) _ _ (λ n. unless (immCI w) _ _ (λ m. lui-stored (rd w) (shl (immCI w) 12) (omega arith) n (omega arith))))
+        (unless (rd w) _ _ (λ n. unless (ci-imm w) _ _ (λ m. lui-stored (rd w) (shl (ci-imm w) 12) (omega arith) n (omega arith))))
 
-    lui-by : (b : Bool) → eqb (rd w) 2 ≡ b → Agrees 2 pc v (C.luiAddi16sp w) (E.c-addi16sp-lui w)
-    unfolding C.luiAddi16sp E.c-addi16sp-lui
+    lui-by : (b : Bool) → eqb (rd w) 2 ≡ b → Agrees 2 pc v (C.lui-addi16sp w) (E.c-addi16sp-lui w)
+    unfolding C.lui-addi16sp E.c-addi16sp-lui
     lui-by true q = rw q addi16sp-is
     lui-by false q = rw q c-lui-is
 
-    c-j-is : Agrees 2 pc v (Instr.Jal 0 (immCJ w)) (E.c-j pc w)
+    c-j-is : Agrees 2 pc v (Instr.Jal 0 (cj-imm w)) (E.c-j pc w)
     unfolding E.c-j
-    c-j-is = rw (imm-cj-is w) (jal-agrees r₀ 2 pc v κ z 0 (immCJ w) (omega arith))
+    c-j-is = rw (imm-cj-is w) (jal-agrees r₀ 2 pc v κ z 0 (cj-imm w) (omega arith))
 
-    bz-is : (k : Cond) → Agrees 2 pc v (Instr.Branch k (highReg w) 0 (immCB w)) (E.c-branch-on pc w (condition k))
+    bz-is : (k : Cond) → Agrees 2 pc v (Instr.Branch k (high-reg w) 0 (cb-imm w)) (E.c-branch-on pc w (condition k))
     unfolding E.c-branch-on
-    bz-is k = rw (imm-cb-is w) (bz-agrees k (highReg w) (immCB w) high-lt)
+    bz-is k = rw (imm-cb-is w) (bz-agrees k (high-reg w) (cb-imm w) high-lt)
 
     quadrant1-by : (t : ℕ) → t < 8 → inst 15 13 w ≡ t → Agrees 2 pc v (C.quadrant1 w) (E.quadrant-1 pc w)
     unfolding C.quadrant1 C.table1 E.quadrant-1 E.c-branch condition
@@ -244,13 +244,13 @@ module _ (r₀ : ℕ → ℕ) (pc : ℕ) (v : Host) (κ : Kept r₀ true v) (z :
         (λ e. rw e (addi-by (eqb (rd w) 0) refl)) (λ e. rw e addiw-is) (λ e. rw e (li-by (eqb (rd w) 0) refl)) (λ e. rw e (lui-by (eqb (rd w) 2) refl))
         (λ e. rw e (group-by (inst 11 10 w) (omega arith) refl)) (λ e. rw e c-j-is) (λ e. rw e (bz-is Cond.Eq)) (λ e. rw e (bz-is Cond.Ne))
 
-    slli-is : Agrees 2 pc v (C.unless0 (rd w) (Instr.OpImm Alu.Sll (rd w) (rd w) (shamtC w))) (E.c-slli w)
+    slli-is : Agrees 2 pc v (C.unless0 (rd w) (Instr.OpImm Alu.Sll (rd w) (rd w) (shamt-c w))) (E.c-slli w)
     unfolding E.c-slli body
     slli-is =
-        rw (shamt-is w) (unless (rd w) _ _ (λ n. imm-stored Alu.Sll (rd w) (rd w) (shamtC w) (omega arith) n (omega arith) (omega arith)))
+        rw (shamt-is w) (unless (rd w) _ _ (λ n. imm-stored Alu.Sll (rd w) (rd w) (shamt-c w) (omega arith) n (omega arith) (omega arith)))
 
-    jr-mv-by : (b : Bool) → eqb (C.rs2 w) 0 ≡ b → Agrees 2 pc v (C.jrMv w) (cond (eqb (C.rs2 w) 0) (E.c-jr (rd w)) (E.c-mv (rd w) (C.rs2 w)))
-    unfolding C.jrMv E.c-jr E.c-mv
+    jr-mv-by : (b : Bool) → eqb (C.rs2 w) 0 ≡ b → Agrees 2 pc v (C.jr-mv w) (cond (eqb (C.rs2 w) 0) (E.c-jr (rd w)) (E.c-mv (rd w) (C.rs2 w)))
+    unfolding C.jr-mv E.c-jr E.c-mv
     jr-mv-by true q = rw q (unless (rd w) _ _ (λ n. jr-agrees (rd w) (omega arith)))
     jr-mv-by false q = rw q (unless (rd w) _ _ (λ n. mv-agrees (rd w) (C.rs2 w) (omega arith) n (omega arith)))
 
@@ -269,9 +269,9 @@ module _ (r₀ : ℕ → ℕ) (pc : ℕ) (v : Host) (κ : Kept r₀ true v) (z :
       add-is = unless (rd w) _ _ (λ n. op-agrees r₀ 2 pc v κ z Alu.Add (rd w) (rd w) (C.rs2 w) (omega arith) (omega arith) (omega arith))
 
       ebreak-jalr-add-by : (b : Bool) → eqb (C.rs2 w) 0 ≡ b
-          → Agrees 2 pc v (C.ebreakJalrAdd flag w)
+          → Agrees 2 pc v (C.ebreak-jalr-add flag w)
           (cond (eqb (C.rs2 w) 0) (cond (eqb (rd w) 0) (E.c-ebreak flag) (E.c-jalr pc (rd w))) (E.c-add (rd w) (C.rs2 w)))
-      unfolding C.ebreakJalrAdd
+      unfolding C.ebreak-jalr-add
       ebreak-jalr-add-by true q = rw q (jalr-by (eqb (rd w) 0))
       ebreak-jalr-add-by false q = rw q add-is
 

@@ -8,15 +8,15 @@ use lib.Dec.{eqb, ltb, T}
 use lib.ListN.{getD}
 use borrow.Author.Tests.{eqb-true, eqb-false, ne-eqb}
 use Rattle.isa.specs.declared.classes.Class.{Class}
-use Rattle.isa.specs.Classes.{classOf}
-use Rattle.isa.specs.Formats.{inst, rd, rs1, rs2, funct3, funct7, immI, immB, immU, immJ}
+use Rattle.isa.specs.Classes.{class-of}
+use Rattle.isa.specs.Formats.{inst, rd, rs1, rs2, funct3, funct7, i-imm, b-imm, u-imm, j-imm}
 use Rattle.rv64.specs.declared.alu.Alu.{Alu}
 use Rattle.rv64.specs.declared.alu.Cond.{Cond}
 use Rattle.rv64.specs.declared.decode.Instr.{Instr}
 use Rattle.rv64.specs.Alu.{value}
 use Rattle.rv64.specs.Decode as D
 use Rattle.rv64.specs.Decode.{Table, lookup}
-use Rattle.emit_native.specs.Calls.{Call, mov-imm64, load, Emission, continue, none, behind, store-rd, then-store-rd}
+use Rattle.emit_native.specs.Calls.{Call, mov-imm64, load, Emission, continue, none, calls-first, store-rd, then-store-rd}
 use Rattle.emit_native.specs.Decode as J
 use Rattle.emit_native.specs.Instr32 as E
 use Rattle.emit_native.proofs.Decoding.{imm-i-is, imm-b-is, imm-u-is, imm-j-is}
@@ -175,13 +175,13 @@ module _ (r₀ : ℕ → ℕ) (pc : ℕ) (v : Host) (κ : Kept r₀ true v) (z :
       (uncovered-agrees r₀ 4 pc v κ z (load 9 (rs1 w) ∷ load 10 (rs2 w) ∷ []) (two (rs1 w) (rs2 w) (omega arith) (omega arith)))
 
   -- with the immediate of type I
-  imm-is : (k : Alu) → Agrees 4 pc v (D.imm w k) (behind (load 9 (rs1 w) ∷ []) (then-store-rd (rd w) (continue (mov-imm64 10 (J.imm-i w) ∷ body k))))
+  imm-is : (k : Alu) → Agrees 4 pc v (D.imm w k) (calls-first (load 9 (rs1 w) ∷ []) (then-store-rd (rd w) (continue (mov-imm64 10 (J.imm-i w) ∷ body k))))
   imm-is k =
       rw (imm-i-is w hw)
-      (imm-agrees r₀ 4 pc v κ z (body k) k (rd w) (rs1 w) (immI w) (body-fine k) (λ u a b. body-law k u a (rw b (omega arith))) (omega arith) (omega arith) (omega arith))
+      (imm-agrees r₀ 4 pc v κ z (body k) k (rd w) (rs1 w) (i-imm w) (body-fine k) (λ u a b. body-law k u a (rw b (omega arith))) (omega arith) (omega arith) (omega arith))
 
   -- shifts by an immediate
-  shift-is : (k : Alu) → Agrees 4 pc v (D.shift w k) (behind (load 9 (rs1 w) ∷ mov-imm64 10 (w / 2 ^ 20 % 4096 % 64) ∷ []) (then-store-rd (rd w) (continue (body k))))
+  shift-is : (k : Alu) → Agrees 4 pc v (D.shift w k) (calls-first (load 9 (rs1 w) ∷ mov-imm64 10 (w / 2 ^ 20 % 4096 % 64) ∷ []) (then-store-rd (rd w) (continue (body k))))
   shift-is k =
       let e : w / 2 ^ 20 % 4096 % 64 ≡ inst 25 20 w = omega arith in
       rw e
@@ -195,7 +195,7 @@ module _ (r₀ : ℕ → ℕ) (pc : ℕ) (v : Host) (κ : Kept r₀ true v) (z :
   hi-is = omega arith
 
   slli-by : (b : Bool) → eqb (w / 2 ^ 26 % 64) 0 ≡ b → Agrees 4 pc v (lookup D.shifts (w / 2 ^ 26 % 64 * 8 + 1) (D.shift w) Instr.Uncovered)
-      (behind (load 9 (rs1 w) ∷ []) (then-store-rd (rd w) (E.op-imm-arm (J.imm-i w) (w / 2 ^ 20 % 4096) 1)))
+      (calls-first (load 9 (rs1 w) ∷ []) (then-store-rd (rd w) (E.op-imm-arm (J.imm-i w) (w / 2 ^ 20 % 4096) 1)))
   unfolding D.shifts E.op-imm-arm store-rd
   slli-by true p = rw (hi-is, eqb-true (w / 2 ^ 26 % 64) 0 p) (unfold body in (shift-is Alu.Sll))
   slli-by false p =
@@ -205,7 +205,7 @@ module _ (r₀ : ℕ → ℕ) (pc : ℕ) (v : Host) (κ : Kept r₀ true v) (z :
 
   srli-by : (b c : Bool) → eqb (w / 2 ^ 26 % 64) 0 ≡ b → eqb (w / 2 ^ 26 % 64) 16 ≡ c
       → Agrees 4 pc v (lookup D.shifts (w / 2 ^ 26 % 64 * 8 + 5) (D.shift w) Instr.Uncovered)
-      (behind (load 9 (rs1 w) ∷ []) (then-store-rd (rd w) (E.op-imm-arm (J.imm-i w) (w / 2 ^ 20 % 4096) 5)))
+      (calls-first (load 9 (rs1 w) ∷ []) (then-store-rd (rd w) (E.op-imm-arm (J.imm-i w) (w / 2 ^ 20 % 4096) 5)))
   unfolding D.shifts E.op-imm-arm store-rd
   srli-by true c p q = rw (hi-is, eqb-true (w / 2 ^ 26 % 64) 0 p) (unfold body in (shift-is Alu.Srl))
   srli-by false true p q = rw (hi-is, eqb-true (w / 2 ^ 26 % 64) 16 q) (unfold body in (shift-is Alu.Sra))
@@ -218,25 +218,25 @@ module _ (r₀ : ℕ → ℕ) (pc : ℕ) (v : Host) (κ : Kept r₀ true v) (z :
       (with-constant (rs1 w) (w / 2 ^ 20 % 4096 % 64) (omega arith) (omega arith)))
 
   op-imm-by : (t : ℕ) → t < 8 → Agrees 4 pc v (lookup D.imms t (D.imm w) (lookup D.shifts (w / 2 ^ 26 % 64 * 8 + t) (D.shift w) Instr.Uncovered))
-      (behind (load 9 (rs1 w) ∷ []) (then-store-rd (rd w) (E.op-imm-arm (J.imm-i w) (w / 2 ^ 20 % 4096) t)))
+      (calls-first (load 9 (rs1 w) ∷ []) (then-store-rd (rd w) (E.op-imm-arm (J.imm-i w) (w / 2 ^ 20 % 4096) t)))
   unfolding D.imms E.op-imm-arm store-rd
   op-imm-by =
       digit
       (λ t. Agrees 4 pc v (lookup D.imms t (D.imm w) (lookup D.shifts (w / 2 ^ 26 % 64 * 8 + t) (D.shift w) Instr.Uncovered))
-      (behind (load 9 (rs1 w) ∷ []) (then-store-rd (rd w) (E.op-imm-arm (J.imm-i w) (w / 2 ^ 20 % 4096) t))))
+      (calls-first (load 9 (rs1 w) ∷ []) (then-store-rd (rd w) (E.op-imm-arm (J.imm-i w) (w / 2 ^ 20 % 4096) t))))
       (unfold body in (imm-is Alu.Add)) (slli-by (eqb (w / 2 ^ 26 % 64) 0) refl) (unfold body in (imm-is Alu.Slt)) (unfold body in (imm-is Alu.Sltu))
       (unfold body in (imm-is Alu.Xor)) (srli-by (eqb (w / 2 ^ 26 % 64) 0) (eqb (w / 2 ^ 26 % 64) 16) refl refl) (unfold body in (imm-is Alu.Or)) (unfold body in (imm-is Alu.And))
 
   -- OP-IMM-32: the shifts of a word
   word-shift-is : (cs : List Call) (k : Alu) → Fine cs → ((u : Host) → u .r 10 < 32 → calls-run cs u .r 11 ≡ value k (u .r 9) (u .r 10))
-      → Agrees 4 pc v (D.shiftw w k) (behind (load 9 (rs1 w) ∷ mov-imm64 10 (w / 2 ^ 20 % 4096 % 32) ∷ []) (then-store-rd (rd w) (continue cs)))
+      → Agrees 4 pc v (D.shiftw w k) (calls-first (load 9 (rs1 w) ∷ mov-imm64 10 (w / 2 ^ 20 % 4096 % 32) ∷ []) (then-store-rd (rd w) (continue cs)))
   word-shift-is cs k φ l =
       let e : w / 2 ^ 20 % 4096 % 32 ≡ inst 24 20 w = omega arith in
       rw e
       (imm-agrees r₀ 4 pc v κ z cs k (rd w) (rs1 w) (inst 24 20 w) φ (λ u a b. l u (rw b (omega arith))) (omega arith) (omega arith) (omega arith))
 
   slliw-by : (b : Bool) → eqb (funct7 w) 0 ≡ b → Agrees 4 pc v (lookup D.shifts32 (funct7 w * 8 + 1) (D.shiftw w) Instr.Uncovered)
-      (behind (load 9 (rs1 w) ∷ []) (then-store-rd (rd w) (E.op-imm-32-arm (J.imm-i w) (w / 2 ^ 20 % 4096) (funct7 w) 1)))
+      (calls-first (load 9 (rs1 w) ∷ []) (then-store-rd (rd w) (E.op-imm-32-arm (J.imm-i w) (w / 2 ^ 20 % 4096) (funct7 w) 1)))
   unfolding D.shifts32 E.op-imm-32-arm store-rd
   slliw-by true p = rw (eqb-true (funct7 w) 0 p) (unfold slliw in (word-shift-is slliw Alu.Sllw slliw-fine slliw-law))
   slliw-by false p =
@@ -246,7 +246,7 @@ module _ (r₀ : ℕ → ℕ) (pc : ℕ) (v : Host) (κ : Kept r₀ true v) (z :
 
   srliw-by : (b c : Bool) → eqb (funct7 w) 0 ≡ b → eqb (funct7 w) 32 ≡ c
       → Agrees 4 pc v (lookup D.shifts32 (funct7 w * 8 + 5) (D.shiftw w) Instr.Uncovered)
-      (behind (load 9 (rs1 w) ∷ []) (then-store-rd (rd w) (E.op-imm-32-arm (J.imm-i w) (w / 2 ^ 20 % 4096) (funct7 w) 5)))
+      (calls-first (load 9 (rs1 w) ∷ []) (then-store-rd (rd w) (E.op-imm-32-arm (J.imm-i w) (w / 2 ^ 20 % 4096) (funct7 w) 5)))
   unfolding D.shifts32 E.op-imm-32-arm store-rd
   srliw-by true c p q = rw (eqb-true (funct7 w) 0 p) (unfold srliw in (word-shift-is srliw Alu.Srlw srliw-fine srliw-law))
   srliw-by false true p q = rw (eqb-true (funct7 w) 32 q) (unfold sraiw in (word-shift-is sraiw Alu.Sraw sraiw-fine sraiw-law))
@@ -266,12 +266,12 @@ module _ (r₀ : ℕ → ℕ) (pc : ℕ) (v : Host) (κ : Kept r₀ true v) (z :
       rw (ne-eqb k 1 (λ e. n (omega arith)), ne-eqb k 5 (λ e. m (omega arith)), ne-eqb k 261 (λ e. m (omega arith)))
 
   op-imm-32-by : (t : ℕ) → t < 8 → Agrees 4 pc v (lookup D.imms32 t (D.imm w) (lookup D.shifts32 (funct7 w * 8 + t) (D.shiftw w) Instr.Uncovered))
-      (behind (load 9 (rs1 w) ∷ []) (then-store-rd (rd w) (E.op-imm-32-arm (J.imm-i w) (w / 2 ^ 20 % 4096) (funct7 w) t)))
+      (calls-first (load 9 (rs1 w) ∷ []) (then-store-rd (rd w) (E.op-imm-32-arm (J.imm-i w) (w / 2 ^ 20 % 4096) (funct7 w) t)))
   unfolding D.imms32 E.op-imm-32-arm store-rd
   op-imm-32-by =
       digit
       (λ t. Agrees 4 pc v (lookup D.imms32 t (D.imm w) (lookup D.shifts32 (funct7 w * 8 + t) (D.shiftw w) Instr.Uncovered))
-      (behind (load 9 (rs1 w) ∷ []) (then-store-rd (rd w) (E.op-imm-32-arm (J.imm-i w) (w / 2 ^ 20 % 4096) (funct7 w) t))))
+      (calls-first (load 9 (rs1 w) ∷ []) (then-store-rd (rd w) (E.op-imm-32-arm (J.imm-i w) (w / 2 ^ 20 % 4096) (funct7 w) t))))
       (unfold body in (imm-is Alu.Addw))
       (slliw-by (eqb (funct7 w) 0) refl)
       (rw (no-shift 2 (omega arith) (omega arith) (omega arith)) only-load)
@@ -283,7 +283,7 @@ module _ (r₀ : ℕ → ℕ) (pc : ℕ) (v : Host) (κ : Kept r₀ true v) (z :
 
   branch-on-is : (k : Cond) → Agrees 4 pc v (D.on w k) (E.branch-on pc w (J.decode32 w) (condition k))
   unfolding E.branch-on
-  branch-on-is k = rw (imm-b-is w hw) (branch-agrees r₀ 4 pc v κ z k (rs1 w) (rs2 w) (immB w) (omega arith) (omega arith))
+  branch-on-is k = rw (imm-b-is w hw) (branch-agrees r₀ 4 pc v κ z k (rs1 w) (rs2 w) (b-imm w) (omega arith) (omega arith))
 
   no-words : Agrees 4 pc v Instr.Uncovered (none [])
   no-words = uncovered-agrees r₀ 4 pc v κ z [] nothing
@@ -307,18 +307,18 @@ module _ (r₀ : ℕ → ℕ) (pc : ℕ) (v : Host) (κ : Kept r₀ true v) (z :
   either false = no-words
 
   others : (c : Class) → Type 0
-  others c = Agrees 4 pc v (D.byClass c w) (none [])
+  others c = Agrees 4 pc v (D.by-class c w) (none [])
 
   any : (b : Bool) (x y : Class) → others x → others y → others (cond b x y)
   any true x y p q = p
   any false x y p q = q
 
-  by-opcode : (n : ℕ) → Opcode n → w % 128 ≡ n → Agrees 4 pc v (D.byClass (classOf (w % 128)) w) (E.emit-native-instr pc w (J.decode32 w))
-  unfolding D.byClass classOf D.op D.op32 D.opImm D.shiftImm D.opImm32 D.shiftImm32 D.branch E.emit-native-instr E.lui E.auipc E.jal E.jalr E.branch E.branch-on E.op-imm E.op-imm-32 E.op-32 E.op E.misc-mem others D.below
-  by-opcode _ lui e = rw (e, imm-u-is w hw) (lui-agrees r₀ 4 pc v κ z (rd w) (immU w) (omega arith) (omega arith))
-  by-opcode _ auipc e = rw (e, imm-u-is w hw) (auipc-agrees r₀ 4 pc v κ z (rd w) (immU w) (omega arith))
-  by-opcode _ jal e = rw (e, imm-j-is w hw) (jal-agrees r₀ 4 pc v κ z (rd w) (immJ w) (omega arith))
-  by-opcode _ jalr e = rw (e, imm-i-is w hw) (jalr-agrees r₀ 4 pc v κ z (rd w) (rs1 w) (immI w) (omega arith) (omega arith) (omega arith))
+  by-opcode : (n : ℕ) → Opcode n → w % 128 ≡ n → Agrees 4 pc v (D.by-class (class-of (w % 128)) w) (E.emit-native-instr pc w (J.decode32 w))
+  unfolding D.by-class class-of D.op D.op32 D.op-imm D.shift-imm D.op-imm-32 D.shift-imm-32 D.branch E.emit-native-instr E.lui E.auipc E.jal E.jalr E.branch E.branch-on E.op-imm E.op-imm-32 E.op-32 E.op E.misc-mem others D.below
+  by-opcode _ lui e = rw (e, imm-u-is w hw) (lui-agrees r₀ 4 pc v κ z (rd w) (u-imm w) (omega arith) (omega arith))
+  by-opcode _ auipc e = rw (e, imm-u-is w hw) (auipc-agrees r₀ 4 pc v κ z (rd w) (u-imm w) (omega arith))
+  by-opcode _ jal e = rw (e, imm-j-is w hw) (jal-agrees r₀ 4 pc v κ z (rd w) (j-imm w) (omega arith))
+  by-opcode _ jalr e = rw (e, imm-i-is w hw) (jalr-agrees r₀ 4 pc v κ z (rd w) (rs1 w) (i-imm w) (omega arith) (omega arith) (omega arith))
   by-opcode _ branch e = rw e (branch-by (funct3 w) f3-lt)
   by-opcode _ op-imm e = rw e (op-imm-by (funct3 w) f3-lt)
   by-opcode _ op-imm-32 e = rw e (op-imm-32-by (funct3 w) f3-lt)

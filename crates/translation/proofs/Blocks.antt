@@ -103,7 +103,7 @@ pub record Walks (w : Walk) (v : Host) (r : Ran) : Type 0 where
   pub next : calls-run (walk-calls w) v .r 0 ≡ r .hart .pc
   pub count : w .count ≡ r .count
 
--- behind calls that leave the slots alone
+-- after calls that leave the slots alone
 stop-walks : (cs : List Call) (n pc : ℕ) (why : Stop) (rwhy : RS.Stop) (v : Host) → next-calls why pc ≡ mov-imm64 0 pc ∷ [] → Fine cs → pc < 2 ^ 64
     → Walks (walked cs n why pc) v (R.stopped (R.hart (v .slots) pc) n rwhy)
 stop-walks cs n pc why rwhy v e φ h =

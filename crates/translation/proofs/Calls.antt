@@ -19,7 +19,7 @@ use Rattle.a64.specs.declared.Op.the-variants.{Add, Sub, And, Orr, Eor, Lslv, L
 use Rattle.a64.specs.declared.Form.{Form}
 use Rattle.a64.specs.declared.Form.the-variants.{DataProcessing, Ldr, Str, Movz, Movk, Cmp, Csel, Sxtw, AddSp, SubSp, Blr, Ret, Unreadable}
 use Rattle.a64_run.specs.declared.state.Flags.{Flags}
-use Rattle.a64_run.specs.Exec.{State, machine, opValue, compared, holds, address, reaches, exec}
+use Rattle.a64_run.specs.Exec.{State, machine, op-value, compared, holds, address, reaches, exec}
 use Rattle.a64_run.proofs.Straight.{Straight, straight-append, constant-goes}
 use Rattle.a64_run.proofs.Slots.{Apart, Slots, slot-stored}
 use Rattle.emit_native.specs.Calls.{Call, emit, mov-imm64, load, store, reg-off, forms, groups}
@@ -43,7 +43,7 @@ abbrev result : Host → ℕ → ℕ → Host
 result v d w = host (upd (v .r) d w) (v .f) (v .slots)
 
 unfoldable pub form-step : Form → Host → Host
-form-step (DataProcessing q d n m) v = result v d (opValue q (operand v n) (operand v m))
+form-step (DataProcessing q d n m) v = result v d (op-value q (operand v n) (operand v m))
 form-step (Cmp n m) v = host (v .r) (compared (operand v n) (operand v m)) (v .slots)
 form-step (Csel d n m c) v = result v d (cond (holds c (v .f)) (operand v n) (operand v m))
 form-step (Sxtw d n) v = result v d (sext 32 (operand v n))
@@ -113,7 +113,7 @@ fits b (mov-imm64 d c) = scratch d
 fits b (load d n) = scratch d && b
 fits b (store d n) = ltb d 32 && b
 
--- X0 still holds the base behind the call
+-- X0 still holds the base after the call
 unfoldable pub keeps : Bool → Call → Bool
 unfolding written
 keeps b (emit f) = b && not (eqb (written f) 0)
@@ -179,8 +179,8 @@ magnitude-lt x h = by (sign x) refl
     by false q = h
 
 -- every result has 64 bits
-op-lt : (q : Op) (x y : ℕ) → x < 2 ^ 64 → y < 2 ^ 64 → opValue q x y < 2 ^ 64
-unfolding opValue
+op-lt : (q : Op) (x y : ℕ) → x < 2 ^ 64 → y < 2 ^ 64 → op-value q x y < 2 ^ 64
+unfolding op-value
 op-lt Add x y hx hy = omega arith
 op-lt Sub x y hx hy = omega arith
 op-lt And x y hx hy = and-lt 64 x y hx hy

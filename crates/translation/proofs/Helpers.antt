@@ -6,8 +6,8 @@ use Prim.Native.Nat.{ℕ, zero, suc, _+_, _*_, _%_, _^_, _<_}
 use native.Mathlib.Omega.{arith}
 use lib.Dec.{eqb, ltb}
 use borrow.Author.Tests.{eqb-true}
-use Rattle.isa.specs.Classes.{classOf}
-use Rattle.isa.specs.Formats.{inst, funct3, rd, immCIW, immCI, immCI16}
+use Rattle.isa.specs.Classes.{class-of}
+use Rattle.isa.specs.Formats.{inst, funct3, rd, ciw-imm, ci-imm, ci16-imm}
 use Rattle.isa.specs.declared.decode.Decoded32.{Decoded32}
 use Rattle.rv64.specs.declared.decode.Instr.{Instr}
 use Rattle.rv64.specs.Decode.{Table, lookup}
@@ -56,7 +56,7 @@ unless n i p = any (eqb n 0) Instr.Uncovered i refl p
 
 module _ (h : H.Host) (pc w n : ℕ) where
   abbrev Same : Type 0
-  Same = took (T.emit-native-term-helper32 h pc w (J.decode32 w) n .flow) ≡ helps (D.byClass (classOf (w % 128)) w)
+  Same = took (T.emit-native-term-helper32 h pc w (J.decode32 w) n .flow) ≡ helps (D.by-class (class-of (w % 128)) w)
 
   load-by : (d : Decoded32) (t : ℕ) → t < 8 → funct3 w ≡ t → took (T.load-helper h pc w d n t .flow) ≡ helps (D.below w 7 Instr.Helper)
   unfolding T.load-helper T.load-op D.below helps
@@ -79,7 +79,7 @@ module _ (h : H.Host) (pc w n : ℕ) where
       by false q = g q
 
   pub helps32 : Same
-  unfolding T.emit-native-term-helper32 T.opcode-helper D.byClass classOf D.op D.op32 D.opImm D.shiftImm D.opImm32 D.shiftImm32 D.branch D.below helps
+  unfolding T.emit-native-term-helper32 T.opcode-helper D.by-class class-of D.op D.op32 D.op-imm D.shift-imm D.op-imm-32 D.shift-imm-32 D.branch D.below helps
   helps32 =
       is 0x03 (λ e. rw e (load-by _ (funct3 w) (omega arith) refl)) (λ a.
       is 0x23 (λ e. rw e (store-by _ (funct3 w) (omega arith) refl)) (λ b.
@@ -106,17 +106,17 @@ module _ (h : H.Host) (pc w n : ℕ) (e : Bool) where
   unfolding T.emit-native-term-helper16 T.supports C.decode16 C.quadrants C.quadrant0 C.table0 helps
   quadrant0-by =
       digit (λ t. w % 4 ≡ 0 → inst 15 13 w ≡ t → Same16)
-      (λ q e. rw (q, e) (unless (immCIW w) _ refl)) (λ q e. rw (q, e)) (λ q e. rw (q, e)) (λ q e. rw (q, e))
+      (λ q e. rw (q, e) (unless (ciw-imm w) _ refl)) (λ q e. rw (q, e)) (λ q e. rw (q, e)) (λ q e. rw (q, e))
       (λ q e. rw (q, e)) (λ q e. rw (q, e)) (λ q e. rw (q, e)) (λ q e. rw (q, e))
 
-  lui-no : false ≡ helps (C.luiAddi16sp w)
-  unfolding C.luiAddi16sp helps
-  lui-no = any (eqb (rd w) 2) _ _ (unless (immCI16 w) _ refl) (unless (rd w) _ (unless (immCI w) _ refl))
+  lui-no : false ≡ helps (C.lui-addi16sp w)
+  unfolding C.lui-addi16sp helps
+  lui-no = any (eqb (rd w) 2) _ _ (unless (ci16-imm w) _ refl) (unless (rd w) _ (unless (ci-imm w) _ refl))
 
-  misc-no : (t : ℕ) → t < 8 → inst 11 10 w ≡ t → false ≡ helps (C.miscAlu w)
-  unfolding C.miscAlu C.miscAlus C.arith helps
+  misc-no : (t : ℕ) → t < 8 → inst 11 10 w ≡ t → false ≡ helps (C.misc-alu w)
+  unfolding C.misc-alu C.misc-alus C.arith helps
   misc-no =
-      digit (λ t. inst 11 10 w ≡ t → false ≡ helps (C.miscAlu w))
+      digit (λ t. inst 11 10 w ≡ t → false ≡ helps (C.misc-alu w))
       (λ e. rw e) (λ e. rw e) (λ e. rw e) (λ e. rw e (in-table C.ariths _ (C.reg w) Instr.Uncovered (λ k. refl) refl))
       (λ e. rw e) (λ e. rw e) (λ e. rw e) (λ e. rw e)
 
@@ -127,12 +127,12 @@ module _ (h : H.Host) (pc w n : ℕ) (e : Bool) where
       (λ q e. rw (q, e)) (λ q e. rw (q, e) (unless (rd w) _ refl)) (λ q e. rw (q, e)) (λ q e. rw (q, e) lui-no)
       (λ q e. rw (q, e) (misc-no (inst 11 10 w) (omega arith) refl)) (λ q e. rw (q, e)) (λ q e. rw (q, e)) (λ q e. rw (q, e))
 
-  jr-no : false ≡ helps (C.jrMv w)
-  unfolding C.jrMv helps
+  jr-no : false ≡ helps (C.jr-mv w)
+  unfolding C.jr-mv helps
   jr-no = any (eqb (C.rs2 w) 0) _ _ (unless (rd w) _ refl) (unless (rd w) _ refl)
 
-  ebreak-no : false ≡ helps (C.ebreakJalrAdd e w)
-  unfolding C.ebreakJalrAdd helps
+  ebreak-no : false ≡ helps (C.ebreak-jalr-add e w)
+  unfolding C.ebreak-jalr-add helps
   ebreak-no = any (eqb (C.rs2 w) 0) _ _ (any (eqb (rd w) 0) _ _ (any e Instr.Nop Instr.Uncovered refl refl) refl) (unless (rd w) _ refl)
 
   cr-no : false ≡ helps (C.cr e w)

@@ -9,7 +9,7 @@ use lib.Dec.{eqb, leb, ltb, T}
 use lib.ListN.{getD, set}
 use borrow.Author.Tests.{eqb-true}
 use Rattle.word.specs.Word.{add}
-use Rattle.a64_run.specs.Exec.{opValue, compared, holds, holds-even}
+use Rattle.a64_run.specs.Exec.{op-value, compared, holds, holds-even}
 use Rattle.a64_run.proofs.Flags.{z-law, c-law, lt-law}
 use Rattle.rv64.specs.declared.alu.Alu.{Alu}
 use Rattle.rv64.specs.declared.alu.Cond.{Cond}
@@ -19,11 +19,11 @@ use Rattle.rv64.specs.Alu.{value, taken}
 use Rattle.rv64.specs.Execute.{read, write, exec}
 use Rattle.emit_native.specs.declared.EmitFlow.{EmitFlow}
 use Rattle.emit_native.specs.Isa.{C-EQ, C-NE, C-CS, C-CC, C-GE, C-LT, not-1}
-use Rattle.emit_native.specs.Calls.{Call, emit, mov-imm64, load, store, add-x, and-x, cmp-x, csel-x, if-not-0, Emission, continue, terminate, none, behind, store-rd, then-store-rd}
+use Rattle.emit_native.specs.Calls.{Call, emit, mov-imm64, load, store, add-x, and-x, cmp-x, csel-x, if-not-0, Emission, continue, terminate, none, calls-first, store-rd, then-store-rd}
 use Rattle.translation.proofs.Calls.{Host, form-step, call-step, calls-run, scratch, form-fits, written, fits, keeps, all-fit, all-keep, AllIn, Kept, and-l, and-r}
 use Rattle.translation.proofs.Alus.{body, slliw, srliw, sraiw, Computes, body-law, not-not, not-leb}
 
--- ---- lists of calls, one behind the other
+-- ---- lists of calls, one after the other
 
 pub run-append : (cs ds : List Call) (v : Host) → calls-run (cs ++ ds) v ≡ calls-run ds (calls-run cs v)
 unfolding calls-run
@@ -153,17 +153,17 @@ pub sraiw-fine : Fine sraiw
 unfolding sraiw all-fit fits form-fits keeps written all-keep scratch calls-run call-step form-step
 sraiw-fine = record { fit = tt; stay = refl; range = omega arith; slots = λ v. refl }
 
--- calls behind fine ones
-pub behind-does : (cs ds : List Call) (v : Host) (rs : List ℕ) → Fine cs → Does ds (calls-run cs v) rs → Does (cs ++ ds) v rs
-behind-does cs ds v rs φ d =
+-- calls after fine ones
+pub calls-first-does : (cs ds : List Call) (v : Host) (rs : List ℕ) → Fine cs → Does ds (calls-run cs v) rs → Does (cs ++ ds) v rs
+calls-first-does cs ds v rs φ d =
     record {
       fit = fit-append true cs ds (φ .fit) (rw (φ .stay) (d .fit));
       range = in-append cs ds (φ .range) (d .range);
       slots = ap (λ (u : Host). u .slots) (run-append cs ds v) ∙ d .slots;
     }
 
-behind-stays : (cs ds : List Call) → Fine cs → T (all-keep true ds) → T (all-keep true (cs ++ ds))
-behind-stays cs ds φ t = rw (keep-append true cs ds, φ .stay) t
+calls-first-stays : (cs ds : List Call) → Fine cs → T (all-keep true ds) → T (all-keep true (cs ++ ds))
+calls-first-stays cs ds φ t = rw (keep-append true cs ds, φ .stay) t
 
 -- X11 into the slot of a register that is not 0
 keep-does : (c : Bool) (d : ℕ) (v : Host) → d < 32
@@ -189,7 +189,7 @@ read-slot rs z n = by (eqb n 0) refl
     by true q = sym (ap (λ (k : ℕ). getD rs k 0) (eqb-true n 0 q) ∙ z)
     by false q = refl
 
--- fine calls that leave w in X11, and the store behind them, where the slots are rs
+-- fine calls that leave w in X11, and the store after them, where the slots are rs
 kept-does : (cs : List Call) (d w : ℕ) (v : Host) (rs : List ℕ) → Fine cs → d < 32 → calls-run cs v .r 11 ≡ w → v .slots ≡ rs
     → Does (cs ++ if-not-0 d (store 11 d ∷ [])) v (write rs d w) × T (all-keep true (cs ++ if-not-0 d (store 11 d ∷ [])))
 unfolding write
@@ -197,7 +197,7 @@ kept-does cs d w v rs φ hd e q =
     let κ = keep-does (eqb d 0) d (calls-run cs v) hd in
     let s : cond (eqb d 0) (calls-run cs v .slots) (set (calls-run cs v .slots) d (calls-run cs v .r 11)) ≡ cond (eqb d 0) rs (set rs d w) =
     rw (φ .slots v, e, q) in
-    (behind-does cs _ v _ φ (rw (← s) (κ .0)), behind-stays cs _ φ (κ .1))
+    (calls-first-does cs _ v _ φ (rw (← s) (κ .0)), calls-first-stays cs _ φ (κ .1))
 
 -- the branches' conditions
 unfoldable pub condition : Cond → ℕ
@@ -246,23 +246,23 @@ even x h = and-high x 63 1 ∙ omega arith
 -- ---- the instructions, from a host v in which X0 is the base of the slots and slot 0 is 0
 
 module _ (r₀ : ℕ → ℕ) (n pc : ℕ) (v : Host) (κ : Kept r₀ true v) (z : getD (v .slots) 0 0 ≡ 0) where
-  -- fine calls behind fine ones that leave the result in X11
+  -- fine calls after fine ones that leave the result in X11
   result-agrees : (pre cs : List Call) (i : Instr) (d w : ℕ) → Fine pre → Fine cs → d < 32 → calls-run cs (calls-run pre v) .r 11 ≡ w
       → exec i n pc (v .slots) ≡ record { x = write (v .slots) d w; flow = Flow.Next (add pc n) }
-      → Agrees n pc v i (behind pre (then-store-rd d (continue cs)))
+      → Agrees n pc v i (calls-first pre (then-store-rd d (continue cs)))
   unfolding store-rd
   result-agrees pre cs i d w φ ψ hd e x =
       let k = kept-does cs d w (calls-run pre v) (v .slots) ψ hd e (φ .slots v) in
       rw x
       (record {
         flow = refl;
-        does = behind-does pre _ v _ φ (k .0);
-        stay = behind-stays pre _ φ (k .1);
+        does = calls-first-does pre _ v _ φ (k .0);
+        stay = calls-first-stays pre _ φ (k .1);
         next = refl;
       })
 
   pub op-agrees : (k : Alu) (d a b : ℕ) → d < 32 → a < 32 → b < 32
-      → Agrees n pc v (Instr.Op k d a b) (behind (load 9 a ∷ load 10 b ∷ []) (then-store-rd d (continue (body k))))
+      → Agrees n pc v (Instr.Op k d a b) (calls-first (load 9 a ∷ load 10 b ∷ []) (then-store-rd d (continue (body k))))
   op-agrees k d a b hd ha hb =
       result-agrees (load 9 a ∷ load 10 b ∷ []) (body k) (Instr.Op k d a b) d (value k (read (v .slots) a) (read (v .slots) b))
       (two a b ha hb) (body-fine k) hd
@@ -273,7 +273,7 @@ module _ (r₀ : ℕ → ℕ) (n pc : ℕ) (v : Host) (κ : Kept r₀ true v) (z
   -- with a constant for the second operand
   pub imm-agrees : (cs : List Call) (k : Alu) (d a c : ℕ) → Fine cs → ((u : Host) → u .r 9 < 2 ^ 64 → u .r 10 ≡ c → Computes cs k u)
       → d < 32 → a < 32 → c < 2 ^ 64
-      → Agrees n pc v (Instr.OpImm k d a c) (behind (load 9 a ∷ mov-imm64 10 c ∷ []) (then-store-rd d (continue cs)))
+      → Agrees n pc v (Instr.OpImm k d a c) (calls-first (load 9 a ∷ mov-imm64 10 c ∷ []) (then-store-rd d (continue cs)))
   imm-agrees cs k d a c φ l hd ha hc =
       result-agrees (load 9 a ∷ mov-imm64 10 c ∷ []) cs (Instr.OpImm k d a c) d (value k (read (v .slots) a) c)
       (with-constant a c ha hc) φ hd
@@ -315,7 +315,7 @@ module _ (r₀ : ℕ → ℕ) (n pc : ℕ) (v : Host) (κ : Kept r₀ true v) (z
   jalr-by : (l d a c : ℕ) (t : Bool) → d < 32 → a < 32 → l < 2 ^ 64 → c < 2 ^ 64
       → Does (jalr-calls t l d a c) v (cond t (v .slots) (set (v .slots) d l))
       × (calls-run (jalr-calls t l d a c) v .r 0 ≡ bitAnd (add (getD (v .slots) a 0) c) (2 ^ 64 - 2))
-  unfolding all-fit fits form-fits keeps written scratch calls-run call-step form-step opValue
+  unfolding all-fit fits form-fits keeps written scratch calls-run call-step form-step op-value
   jalr-by l d a c true hd ha hl hc = (record { fit = tt; range = omega arith; slots = refl }, refl)
   jalr-by l d a c false hd ha hl hc = (record { fit = tt; range = omega arith; slots = refl }, refl)
 
@@ -336,7 +336,7 @@ module _ (r₀ : ℕ → ℕ) (n pc : ℕ) (v : Host) (κ : Kept r₀ true v) (z
   branch-agrees k a b c ha hb =
       record {
         flow = refl;
-        does = behind-does (load 9 a ∷ load 10 b ∷ []) _ v _ (two a b ha hb)
+        does = calls-first-does (load 9 a ∷ load 10 b ∷ []) _ v _ (two a b ha hb)
             (unfold calls-run call-step in (fork-does k (add pc c) (add pc n) (calls-run (load 9 a ∷ load 10 b ∷ []) v) (omega arith) (omega arith)));
         next = rw (read-slot (v .slots) z a, read-slot (v .slots) z b)
             (unfold calls-run call-step in (fork-next k (add pc c) (add pc n) (calls-run (load 9 a ∷ load 10 b ∷ []) v) (κ .small a) (κ .small b)));

@@ -31,9 +31,9 @@ impl Default for Blocks {
 impl Blocks {
     /// Memory with room for the slots, up to the last address now and then.
     fn place(&self, random: &mut Random, registers: &Registers) -> Place {
-        let (before, behind) = (random.below(8), random.below(24));
+        let (before, after) = (random.below(8), random.below(24));
         let slots = 8 * before;
-        let size = slots + SLOTS + behind;
+        let size = slots + SLOTS + after;
         let mut memory = self.pool.cut(random, size);
         memory[slots..slots + SLOTS].copy_from_slice(&registers.to_bytes());
         let base = match random.below(4) {

@@ -1,4 +1,4 @@
-//! Translate against `compile_native_block`: refusals, words, count, helper mark, and the output behind the block.
+//! Translate against `compile_native_block`: refusals, words, count, helper mark, and the output after the block.
 
 use crate::{question, Compared};
 use draw::case::enough;

@@ -40,7 +40,7 @@ pub struct Rv64RunAnswer {
     pub refusal: u32,
     /// The instructions done.
     pub count: u32,
-    /// The PC behind them.
+    /// The PC after them.
     pub next_pc: u64,
 }
 

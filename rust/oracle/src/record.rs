@@ -23,7 +23,7 @@ fn enough(random: &mut Random, mut case: Case) -> Case {
     case
 }
 
-/// A form first in its block, or behind one to three others.
+/// A form first in its block, or after one to three others.
 fn draw_form(random: &mut Random, form: Form, before: usize) -> Case {
     let mut guest = Vec::new();
     for _ in 0..before {
@@ -125,7 +125,7 @@ fn bytes(random: &mut Random, cases: &mut Vec<Case>) {
     }
 }
 
-/// 64 DIV, 64 REM, and 63 DIV with a helper, a jump and leftover words behind them.
+/// 64 DIV, 64 REM, and 63 DIV with a helper, a jump and leftover words after them.
 fn largest(random: &mut Random, cases: &mut Vec<Case>) {
     let (slot_offset, helpers) = (32_512, HELPERS[4]);
     let case = Case { pc: LONG_PC, slot_offset, helpers, ..Case::new(&DIV.repeat(64), 64) };

@@ -67,7 +67,7 @@ pub fn compare(case: &Case) -> Result<Answer, String> {
     }
 }
 
-/// One instruction first, with a C.NOP behind it, and behind a C.NOP.
+/// One instruction first, with a C.NOP after it, and after a C.NOP.
 fn instruction(instr: u32, ignore_ebreak: bool, wrong: &mut Vec<String>) {
     let size = if instr & 3 == 3 { 4 } else { 2 };
     let bytes = &instr.to_le_bytes()[..size];

@@ -46,7 +46,7 @@ pub fn rv64_run(
     let limit = limit.min(64);
     let (mut rest, mut pc, mut count) = (guest, pc, 0);
     while count < limit {
-        let Some((low, behind)) = rest.split_first_chunk() else {
+        let Some((low, after)) = rest.split_first_chunk() else {
             if count == 0 {
                 return refused(4);
             }
@@ -54,16 +54,16 @@ pub fn rv64_run(
         };
         let low = u16::from_le_bytes(*low);
         let (flow, length) = if low & 3 != 3 {
-            rest = behind;
+            rest = after;
             (step16(low, pc, ignore_ebreak, regs), 2)
         } else {
-            let Some((high, behind)) = behind.split_first_chunk() else {
+            let Some((high, after)) = after.split_first_chunk() else {
                 if count == 0 {
                     return refused(4);
                 }
                 break;
             };
-            rest = behind;
+            rest = after;
             let instr = u32::from(low) | u32::from(u16::from_le_bytes(*high)) << 16;
             (step32(instr, pc, regs), 4)
         };

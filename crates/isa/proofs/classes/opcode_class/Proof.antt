@@ -7,7 +7,7 @@ use native.Mathlib.Omega.{arith}
 use native.Mathlib.Nat.{add-zero, zero-add, add-suc, suc-add, le-of-suc-le-suc, not-suc-le-zero}
 use lib.ListN.{getD}
 use Rattle.isa.specs.declared.classes.Class.{Class}
-use Rattle.isa.specs.Classes.{classOf}
+use Rattle.isa.specs.Classes.{class-of}
 use Rattle.isa.specs.Parts.{numbered}
 use Rattle.isa.proofs.classes.opcode_class.Statement.{statement}
 use Rattle.isa.proofs.classes.opcode_class.Tie as tie
@@ -15,9 +15,9 @@ use Rattle.isa.proofs.classes.opcode_class.Tie as tie
 -- the classes of n opcodes from i on
 from : ℕ → ℕ → List Class
 from zero i = []
-from (suc n) i = classOf i ∷ from n (suc i)
+from (suc n) i = class-of i ∷ from n (suc i)
 
-at : (xs : List ℕ) (n i : ℕ) → map numbered xs ≡ from n i → (k : ℕ) → k < n → numbered (getD xs k 0) ≡ classOf (i + k)
+at : (xs : List ℕ) (n i : ℕ) → map numbered xs ≡ from n i → (k : ℕ) → k < n → numbered (getD xs k 0) ≡ class-of (i + k)
 unfolding from
 at xs zero i e k h = absurd (not-suc-le-zero h)
 at [] (suc n) i e k h = cc
@@ -26,7 +26,7 @@ at (x ∷ xs) (suc n) i e (suc k) h =
     let e′ : map numbered xs ≡ from n (suc i) = cc in
     rw (add-suc, ← suc-add) (at xs n (suc i) e′ k (le-of-suc-le-suc h))
 
-whole : (xs : List ℕ) → map numbered xs ≡ from 128 0 → (k : ℕ) → k < 128 → numbered (getD xs k 0) ≡ classOf k
+whole : (xs : List ℕ) → map numbered xs ≡ from 128 0 → (k : ℕ) → k < 128 → numbered (getD xs k 0) ≡ class-of k
 whole xs e k h = rw zero-add at (at xs 128 0 e k h)
 
 table : List ℕ
@@ -41,7 +41,7 @@ table =
     ∷ 0 ∷ 0 ∷ 0 ∷ 16 ∷ 0 ∷ 0 ∷ 0 ∷ 0 ∷ 0 ∷ 0 ∷ 0 ∷ 0 ∷ 0 ∷ 0 ∷ 0 ∷ 0 ∷ []
 
 returns : tie.Need-returns
-unfolding table from numbered classOf
+unfolding table from numbered class-of
 returns c = c .numbered-class .ensures ∙ whole table refl (c .before .args .instr % 128) (omega arith)
 
 pub opcode-class-spec : {M : Type 1} → statement M

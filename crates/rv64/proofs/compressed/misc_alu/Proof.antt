@@ -10,24 +10,24 @@ use Rattle.rv64.proofs.compressed.misc_alu.Statement.{statement}
 use Rattle.rv64.proofs.compressed.misc_alu.Tie as tie
 
 returns : tie.Need-returns
-unfolding C.miscAlu C.miscAlus S.applied X.exec N.value
+unfolding C.misc-alu C.misc-alus S.applied X.exec N.value
 returns c = (omega arith, rw (c .match .keys1, c .before .shamt-c .ensures, c .before .before .before .read .ensures))
 
 returns-2 : tie.Need-returns-2
-unfolding C.miscAlu C.miscAlus S.applied X.exec N.value
+unfolding C.misc-alu C.misc-alus S.applied X.exec N.value
 returns-2 c = (omega arith, rw (c .asr .ensures, c .before .match .keys2, c .before .before .shamt-c .ensures, c .before .before .before .before .read .ensures))
 
 returns-3 : tie.Need-returns-3
-unfolding C.miscAlu C.miscAlus S.applied X.exec N.value
+unfolding C.misc-alu C.misc-alus S.applied X.exec N.value
 returns-3 c = (omega arith, rw (c .imm-ci .ensures, c .before .match .keys3, c .before .before .before .before .read .ensures))
 
 returns-4 : tie.Need-returns-4
-unfolding C.miscAlu C.miscAlus
+unfolding C.misc-alu C.misc-alus
 returns-4 c = rw (c .put .ensures, c .before .arith .ensures, c .before .before .match .keys4, c .before .before .before .before .read2 .ensures, c .before .before .before .before .before .read .ensures) (T.arith (c .before .before .before .before .before .before .args .w) (c .before .before .before .before .before .before .args .pc) (c .before .before .before .before .before .before .args .x .now))
 
 returns-5 : tie.Need-returns-5
-unfolding C.miscAlu C.miscAlus S.applied X.exec N.value
-returns-5 c = (omega arith, rw (← missed _ C.itself _ _ (C.miscAlus (c .before .before .before .before .args .w)) (c .match .rest)))
+unfolding C.misc-alu C.misc-alus S.applied X.exec N.value
+returns-5 c = (omega arith, rw (← missed _ C.itself _ _ (C.misc-alus (c .before .before .before .before .args .w)) (c .match .rest)))
 
 pub misc-alu-spec : {M : Type 1} → statement M
 misc-alu-spec =

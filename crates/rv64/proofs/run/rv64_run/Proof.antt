@@ -1,20 +1,20 @@
 use borrow.Author.Tests.{eq-eqb, ne-eqb}
-use Rattle.rv64.specs.Run.{answer, answerOf, refusalOf, number}
-use Rattle.rv64.proofs.Refusing.{at-first, register-zero, accepted}
+use Rattle.rv64.specs.Run.{answer, answer-of, refusal-of, number}
+use Rattle.rv64.proofs.Refusing.{answer-at-first, register-zero, accepted}
 use borrow.Author.Needs.{needs}
 use Rattle.rv64.proofs.run.rv64_run.Statement.{statement}
 use Rattle.rv64.proofs.run.rv64_run.Tie as tie
 
 returns : tie.Need-returns
-unfolding answer answerOf refusalOf number
+unfolding answer answer-of refusal-of number
 returns c = rw (c .refused .ensures, eq-eqb _ _ (c .before .if1 .taken))
 
 returns-2 : tie.Need-returns-2
-unfolding answer answerOf refusalOf number
+unfolding answer answer-of refusal-of number
 returns-2 c = rw (c .refused2 .ensures, ne-eqb _ _ (c .before .before .before .if1 .left), ne-eqb _ _ (c .before .if2 .taken))
 
 returns-3 : tie.Need-returns-3
-returns-3 c = rw (c .refused3 .ensures, c .before .at-first .ensures) (at-first _ _ _ _ (c .before .before .before .before .before .before .before .if1 .left) (c .before .before .before .before .before .if2 .left) (rw (c .before .before .before .before .clamped .ensures) at (c .before .before .before .run .ensures)) (c .before .before .if3 .taken))
+returns-3 c = rw (c .refused3 .ensures, c .before .at-first .ensures) (answer-at-first _ _ _ _ (c .before .before .before .before .before .before .before .if1 .left) (c .before .before .before .before .before .if2 .left) (rw (c .before .before .before .before .clamped .ensures) at (c .before .before .before .run .ensures)) (c .before .before .if3 .taken))
 
 returns-4 : tie.Need-returns-4
 returns-4 c = rw (c .refused4 .ensures) (register-zero _ _ _ _ (c .before .before .before .before .before .before .before .if1 .left) (c .before .before .before .before .before .if2 .left) (rw (c .before .before .before .before .clamped .ensures) at (c .before .before .before .run .ensures)) (c .before .before .if3 .left) (c .before .if4 .taken))
