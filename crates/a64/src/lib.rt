@@ -238,6 +238,10 @@ pub fn append_at(
     requires { ⌜ (length (now words) ≡ max-words) × (length (now part) ≡ instr-words) ⌝ }
     ensures { λ r. ⌜ Added max-words (now (words .entry)) at (now (words .exit)) r (take len (now (part .entry))) ⌝ }
 {
+    // as of C.NOP
+    if len == 0 {
+        return at;
+    }
     let n = instr_count(len);
     if MAX_WORDS - n < at {
         return at;
