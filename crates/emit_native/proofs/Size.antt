@@ -1,4 +1,4 @@
--- How many words: at most 29 for an instruction, 33 for a helper's call, 9 for the end of a block. Assumes nothing.
+-- How many words: at most 29 for an instruction, and what a list of calls takes at most. Assumes nothing.
 use Prim.Native.Nat.{ℕ, _+_, _/_, _%_, _^_, _≤_}
 use native.Mathlib.Omega.{arith}
 use mathlib.Core.Path.{_≡_, refl}

@@ -32,7 +32,7 @@ pub struct PlaceAnswer {
     pub used: u64,
 }
 
-// The refusal; document 01's end, 0 where refused; the steps done.
+// The refusal; the end's number, 0 where refused; the steps done.
 #[repr(C)]
 pub struct A64RunAnswer {
     pub refusal: u32,
