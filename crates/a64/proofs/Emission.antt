@@ -1,21 +1,18 @@
--- Laws of `emitted`, `emitted-all` and `constant`: chains of calls, sizes, room. Assumes nothing.
+-- Laws of `emitted`, `emitted-all` and `mov-imm64`: chains of calls, sizes, room. Assumes nothing.
 use Prim.Native.Nat.{ℕ, zero, suc, _+_, _*_, _/_, _%_, _^_, _≤_, _<_, min}
-use native.Mathlib.Nat.{mod-lt}
 use native.Mathlib.Omega.{arith}
 use native.Mathlib.Numerals.{add-one}
 use mathlib.Core.Path.{_≡_, refl, sym, ap, _∙_}
 use mathlib.Core.Bool.{Bool, true, false, cond}
-use mathlib.Core.List.{List, [], _∷_, _++_, append-assoc, append-nil, map, map-append, flatten}
-use lib.ListN.{length, take, drop, getD, set, length-append, length-take, length-drop, length-map}
+use mathlib.Core.List.{List, [], _∷_, _++_, append-assoc, append-nil, flatten}
+use lib.ListN.{length, take, drop, getD, set, length-append, length-take, length-drop}
 use lib.Seq.{take-nil, take-suc, take-suc-set, take-at, drop-append-add, drop-drop, length-take-le, sets, sets-eq, paste, take-paste}
 use lib.Dec.{leb, eqb}
 use borrow.Author.Tests.{le-leb, lt-leb, eq-eqb, ne-eqb}
-use Rattle.a64.specs.declared.Form.{Form}
-use Rattle.a64.specs.declared.Form.the-variants.{Movz, Movk}
-use Rattle.a64.specs.Forms.{encode, decode}
-use Rattle.a64.specs.Parts.{InRange, max-words, instr-words, emitted-in, emitted, emitted-all, written, Written}
-use Rattle.a64.proofs.Coding.{decode-encode}
-use Rattle.a64.specs.Emitter.{encoded, halfword, upper, constant, bytes, word-bytes}
+use Rattle.rules.specs.Limits.{instr-words, max-words}
+use Rattle.a64.specs.Parts.{emitted-in, emitted, emitted-all, written, Written}
+use Rattle.a64.specs.Writers.{part, movk, mov-imm64}
+use Rattle.a64.specs.Emitter.{bytes, word-bytes}
 
 -- words that fit are added
 pub emitted-fits : (m : ℕ) (h ws : List ℕ) → length h + length ws ≤ m → emitted-in m h ws ≡ h ++ ws
@@ -36,22 +33,17 @@ pub emitted-none : (m : ℕ) (h : List ℕ) → emitted-in m h [] ≡ h
 unfolding emitted-in
 emitted-none m h = rw append-nil (cond-same (leb (length h + 0) m) h)
 
-pub length-encoded : (fs : List Form) → length (encoded fs) ≡ length fs
-length-encoded fs = length-map fs encode
-
 -- the words of several calls, where all fit
-pub emitted-all-fits : (h : List ℕ) (gs : List (List Form)) → length h + length (flatten gs) ≤ instr-words
-    → emitted-all h gs ≡ h ++ encoded (flatten gs)
+pub emitted-all-fits : (h : List ℕ) (gs : List (List ℕ)) → length h + length (flatten gs) ≤ instr-words → emitted-all h gs ≡ h ++ flatten gs
 unfolding flatten
 emitted-all-fits h [] f = sym (append-nil h)
 emitted-all-fits h (g ∷ gs) f =
     let l : length (g ++ flatten gs) ≡ length g + length (flatten gs) = length-append g (flatten gs) in
-    let m : length (encoded g) ≡ length g = length-encoded g in
-    let k : length (h ++ encoded g) ≡ length h + length (encoded g) = length-append h (encoded g) in
-    rw (emitted-fits instr-words h (encoded g) (omega arith), emitted-all-fits (h ++ encoded g) gs (omega arith), append-assoc, map-append)
+    let k : length (h ++ g) ≡ length h + length g = length-append h g in
+    rw (emitted-fits instr-words h g (omega arith), emitted-all-fits (h ++ g) gs (omega arith), append-assoc)
 
 -- the words of several calls on an emitter that holds nothing
-pub emitted-all-new : (h : List ℕ) (gs : List (List Form)) → h ≡ [] → length (flatten gs) ≤ instr-words → emitted-all h gs ≡ encoded (flatten gs)
+pub emitted-all-new : (h : List ℕ) (gs : List (List ℕ)) → h ≡ [] → length (flatten gs) ≤ instr-words → emitted-all h gs ≡ flatten gs
 emitted-all-new h gs e f = rw e (emitted-all-fits [] gs (omega arith))
 
 -- the words of one call on an emitter that holds nothing
@@ -59,16 +51,13 @@ pub emitted-new : (h ws p : List ℕ) → h ≡ [] → p ≡ emitted h ws → le
 emitted-new h ws p new e f = e ∙ rw new (emitted-fits instr-words [] ws (omega arith))
 
 -- calls after calls
-pub emitted-all-append : (h : List ℕ) (gs bs : List (List Form)) → emitted-all h (gs ++ bs) ≡ emitted-all (emitted-all h gs) bs
+pub emitted-all-append : (h : List ℕ) (gs bs : List (List ℕ)) → emitted-all h (gs ++ bs) ≡ emitted-all (emitted-all h gs) bs
 emitted-all-append h [] bs = refl
-emitted-all-append h (g ∷ gs) bs = emitted-all-append (emitted h (encoded g)) gs bs
+emitted-all-append h (g ∷ gs) bs = emitted-all-append (emitted h g) gs bs
 
 -- where all fit, the calls are one
-pub emitted-all-one : (h : List ℕ) (gs : List (List Form)) → length h + length (flatten gs) ≤ instr-words
-    → emitted-all h gs ≡ emitted h (encoded (flatten gs))
-emitted-all-one h gs f =
-    let m : length (encoded (flatten gs)) ≡ length (flatten gs) = length-encoded (flatten gs) in
-    emitted-all-fits h gs f ∙ sym (emitted-fits instr-words h (encoded (flatten gs)) (omega arith))
+pub emitted-all-one : (h : List ℕ) (gs : List (List ℕ)) → length h + length (flatten gs) ≤ instr-words → emitted-all h gs ≡ emitted h (flatten gs)
+emitted-all-one h gs f = emitted-all-fits h gs f ∙ sym (emitted-fits instr-words h (flatten gs) f)
 
 -- ---- an array of words
 
@@ -156,81 +145,48 @@ none-written ws d len l f =
 
 -- ---- constants
 
--- a halfword that is 0 adds nothing, and any other one form
-pub upper-none : (rd hw p : ℕ) → p ≡ 0 → upper rd hw p ≡ []
-unfolding upper
-upper-none rd hw p e = rw (eq-eqb p 0 e)
+-- a part that is 0 adds nothing, and any other one word
+pub movk-none : (rd hw p : ℕ) → p ≡ 0 → movk rd hw p ≡ []
+unfolding movk
+movk-none rd hw p e = rw (eq-eqb p 0 e)
 
-pub upper-some : (rd hw p : ℕ) → (p ≡ 0 → ⊥) → upper rd hw p ≡ Movk rd hw p ∷ []
-unfolding upper
-upper-some rd hw p e = rw (ne-eqb p 0 e)
+pub movk-some : (rd hw p : ℕ) → (p ≡ 0 → ⊥) → movk rd hw p ≡ (0xF2800000 + hw * 2 ^ 21 + p * 2 ^ 5 + rd) ∷ []
+unfolding movk
+movk-some rd hw p e = rw (ne-eqb p 0 e)
 
-cond-most : (b : Bool) (f : Form) → length (cond b [] (f ∷ [])) ≤ 1
-cond-most true f = omega arith
-cond-most false f = omega arith
+cond-most : (b : Bool) (w : ℕ) → length (cond b [] (w ∷ [])) ≤ 1
+cond-most true w = omega arith
+cond-most false w = omega arith
 
-upper-most : (rd hw p : ℕ) → length (upper rd hw p) ≤ 1
-unfolding upper
-upper-most rd hw p = cond-most (eqb p 0) (Movk rd hw p)
+movk-most : (rd hw p : ℕ) → length (movk rd hw p) ≤ 1
+unfolding movk
+movk-most rd hw p = cond-most (eqb p 0) (0xF2800000 + hw * 2 ^ 21 + p * 2 ^ 5 + rd)
 
 -- the groups of a constant, and how many words they are
-abbrev pub parts : ℕ → ℕ → List (List Form)
-parts rd v =
-    (Movz rd 0 (v % 65536) ∷ []) ∷ upper rd 1 (halfword 1 v) ∷ upper rd 2 (halfword 2 v) ∷ upper rd 3 (halfword 3 v) ∷ []
+abbrev pub parts : ℕ → ℕ → List (List ℕ)
+parts rd v = ((0xD2800000 + v % 65536 * 2 ^ 5 + rd) ∷ []) ∷ movk rd 1 (part v 1) ∷ movk rd 2 (part v 2) ∷ movk rd 3 (part v 3) ∷ []
 
-constant-parts : (rd v : ℕ) → constant rd v ≡ flatten (parts rd v)
-unfolding constant flatten
-constant-parts rd v = rw (append-nil (upper rd 3 (halfword 3 v)))
+constant-parts : (rd v : ℕ) → mov-imm64 rd v ≡ flatten (parts rd v)
+unfolding mov-imm64 flatten
+constant-parts rd v = rw (append-nil (movk rd 3 (part v 3)))
 
-pub constant-length : (rd v a b c : ℕ) → length (upper rd 1 (halfword 1 v)) ≡ a → length (upper rd 2 (halfword 2 v)) ≡ b
-    → length (upper rd 3 (halfword 3 v)) ≡ c → length (constant rd v) ≡ 1 + a + b + c
-unfolding constant
+pub constant-length : (rd v a b c : ℕ) → length (movk rd 1 (part v 1)) ≡ a → length (movk rd 2 (part v 2)) ≡ b
+    → length (movk rd 3 (part v 3)) ≡ c → length (mov-imm64 rd v) ≡ 1 + a + b + c
+unfolding mov-imm64
 constant-length rd v a b c e f g = simp (length-append, e, f, g) (omega arith)
 
 -- a constant is 1 to 4 words
-pub constant-most : (rd v : ℕ) → length (constant rd v) ≤ 4
+pub constant-most : (rd v : ℕ) → length (mov-imm64 rd v) ≤ 4
 constant-most rd v =
-    let a = upper-most rd 1 (halfword 1 v) in
-    let b = upper-most rd 2 (halfword 2 v) in
-    let c = upper-most rd 3 (halfword 3 v) in
+    let a = movk-most rd 1 (part v 1) in
+    let b = movk-most rd 2 (part v 2) in
+    let c = movk-most rd 3 (part v 3) in
     omega (arith, constant-length rd v _ _ _ refl refl refl)
 
-pub constant-least : (rd v : ℕ) → 1 ≤ length (constant rd v)
+pub constant-least : (rd v : ℕ) → 1 ≤ length (mov-imm64 rd v)
 constant-least rd v = omega (arith, constant-length rd v _ _ _ refl refl refl)
 
 -- a constant that fits is its parts, one after the other
-pub constant-one : (h : List ℕ) (rd v : ℕ) → length h + length (constant rd v) ≤ instr-words
-    → emitted-all h (parts rd v) ≡ emitted h (encoded (constant rd v))
+pub constant-one : (h : List ℕ) (rd v : ℕ) → length h + length (mov-imm64 rd v) ≤ instr-words
+    → emitted-all h (parts rd v) ≡ emitted h (mov-imm64 rd v)
 constant-one h rd v f = rw constant-parts (emitted-all-one h (parts rd v) (rw constant-parts at f))
-
--- ---- fields in range
-
-abbrev pub AllInRange : List Form → Type 0
-AllInRange [] = Unit {0}
-AllInRange (f ∷ fs) = InRange f × AllInRange fs
-
-pub in-range-append : (fs gs : List Form) → AllInRange fs → AllInRange gs → AllInRange (fs ++ gs)
-in-range-append [] gs a b = b
-in-range-append (f ∷ fs) gs a b = (a .0, in-range-append fs gs (a .1) b)
-
-cond-in-range : (b : Bool) (f : Form) → InRange f → AllInRange (cond b [] (f ∷ []))
-cond-in-range true f r = tt
-cond-in-range false f r = (r, tt)
-
-upper-in-range : (rd hw v : ℕ) → rd < 32 → hw < 4 → AllInRange (upper rd hw (halfword hw v))
-unfolding upper
-upper-in-range rd hw v h k = cond-in-range (eqb (halfword hw v) 0) (Movk rd hw (halfword hw v)) (h, k, mod-lt (v / 2 ^ (16 * hw)) (omega arith))
-
-pub constant-in-range : (rd v : ℕ) → rd < 32 → AllInRange (constant rd v)
-unfolding constant
-constant-in-range rd v h =
-    let u : ℕ → List Form = λ hw. upper rd hw (halfword hw v) in
-    let a = upper-in-range rd 1 v h (omega arith) in
-    let b = upper-in-range rd 2 v h (omega arith) in
-    let c = upper-in-range rd 3 v h (omega arith) in
-    ((h, omega arith, omega arith), in-range-append (u 1) (u 2 ++ u 3) a (in-range-append (u 2) (u 3) b c))
-
--- the words of forms read back
-pub decode-encoded : (fs : List Form) → AllInRange fs → map decode (encoded fs) ≡ fs
-decode-encoded [] r = refl
-decode-encoded (f ∷ fs) r = rw (decode-encode f (r .0), decode-encoded fs (r .1))

@@ -1,2 +1,3 @@
 pub mod Coding
+pub mod Writing
 pub mod Emission

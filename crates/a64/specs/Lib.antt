@@ -1,3 +1,4 @@
-pub mod Emitter
 pub mod Forms
+pub mod Writers
+pub mod Emitter
 pub mod Parts

@@ -1,41 +1,16 @@
 -- What the functions of this crate promise one another; no operation's contract reaches it.
-use Prim.Native.Nat.{ℕ, _+_, _≤_, _<_}
+use Prim.Native.Nat.{ℕ, _+_, _≤_}
 use mathlib.Core.Path.{_≡_}
 use mathlib.Core.Bool.{Bool, true, false, cond}
 use mathlib.Core.List.{List, [], _∷_, _++_}
 use lib.ListN.{length, take, drop}
 use lib.Dec.{leb}
-use Rattle.a64.specs.declared.A64Emitter.{A64Emitter}
-use Rattle.a64.specs.declared.InstrEmitter.{InstrEmitter}
-use Rattle.a64.specs.declared.Form.{Form}
-use Rattle.a64.specs.declared.Form.the-variants.{DataProcessing, Ldr, Str, Movz, Movk, Cmp, Csel, Sxtw, AddSp, SubSp, Blr, Ret, Unreadable}
-use Rattle.a64.specs.Emitter.{encoded, bytes}
-
--- each field fits its bits
-abbrev pub InRange : Form → Type 0
-InRange (DataProcessing op rd rn rm) = (rd < 32) × (rn < 32) × (rm < 32)
-InRange (Ldr rt rn imm) = (rt < 32) × (rn < 32) × (imm < 4096)
-InRange (Str rt rn imm) = (rt < 32) × (rn < 32) × (imm < 4096)
-InRange (Movz rd hw imm) = (rd < 32) × (hw < 4) × (imm < 65536)
-InRange (Movk rd hw imm) = (rd < 32) × (hw < 4) × (imm < 65536)
-InRange (Cmp rn rm) = (rn < 32) × (rm < 32)
-InRange (Csel rd rn rm c) = (rd < 32) × (rn < 32) × (rm < 32) × (c < 16)
-InRange (Sxtw rd rn) = (rd < 32) × (rn < 32)
-InRange (AddSp imm) = imm < 4096
-InRange (SubSp imm) = imm < 4096
-InRange (Blr rn) = rn < 32
-InRange Ret = Unit {0}
-InRange Unreadable = Unit {0}
+use Rattle.a64.specs.declared.emitter.A64Emitter.{A64Emitter}
+use Rattle.a64.specs.declared.emitter.InstrEmitter.{InstrEmitter}
+use Rattle.a64.specs.Emitter.{bytes}
+use Rattle.rules.specs.Limits.{instr-words}
 
 -- ---- the words that an emitter holds, an instruction's and a block's, and what the calls that add words leave
-
--- the most words of a block: 29 for each of 64 instructions, and 6 for its end (document 01)
-abbrev pub max-words : ℕ
-max-words = 1862
-
--- the most words of an instruction, or of the end of a block: 29 inline, and 30 of a helper's call
-abbrev pub instr-words : ℕ
-instr-words = 30
 
 unfoldable pub held : InstrEmitter → List ℕ
 held e = take (e .len) (e .words)
@@ -56,10 +31,10 @@ unfoldable pub emitted-if : Bool → ℕ → List ℕ
 emitted-if true w = w ∷ []
 emitted-if false w = []
 
--- the words h after several calls, each of which adds a group of forms
-abbrev pub emitted-all : List ℕ → List (List Form) → List ℕ
+-- the words h after several calls, each of which adds a group of words
+abbrev pub emitted-all : List ℕ → List (List ℕ) → List ℕ
 emitted-all h [] = h
-emitted-all h (g ∷ gs) = emitted-all (emitted h (encoded g)) gs
+emitted-all h (g ∷ gs) = emitted-all (emitted h g) gs
 
 -- what a call leaves of an array l of m words whose first n are held: the first r of l′ are held, and they are those with ws added
 pub record Added (m : ℕ) (l : List ℕ) (n : ℕ) (l′ : List ℕ) (r : ℕ) (ws : List ℕ) : Type 0 where

@@ -9,8 +9,8 @@ use lib.Dec.{eqb}
 use lib.ListN.{length}
 use lib.Seq.{getD-set-same, set-set}
 use borrow.Author.Tests.{eqb-true}
-use Rattle.a64.specs.declared.Form.{Form}
-use Rattle.a64.specs.declared.Form.the-variants.{Movk}
+use Rattle.a64.specs.declared.forms.Form.{Form}
+use Rattle.a64.specs.declared.forms.Form.the-variants.{Movk}
 use Rattle.a64.specs.Forms.{encode}
 use Rattle.a64.specs.Parts.{InRange}
 use Rattle.a64.specs.Emitter.{encoded, halfword, upper, constant}

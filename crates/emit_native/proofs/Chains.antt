@@ -9,13 +9,13 @@ use Rattle.emit_native.specs.Calls.{Call, groups, Emission, calls-first,
 use Rattle.emit_native.specs.Parts.{Emits}
 
 -- calls after those of a match
-pub then : (slots rd : ℕ) (h : List ℕ) (e : Emission) (out r : Emitted) → Emits slots h e out
-    → (held (r .em) ≡ emitted-all (held (out .em)) (groups slots (store-rd (out .flow) rd))) × (r .flow ≡ out .flow)
-    → Emits slots h (then-store-rd rd e) r
-then slots rd h e out r a b =
+pub then : (slot-offset rd : ℕ) (h : List ℕ) (e : Emission) (out r : Emitted) → Emits slot-offset h e out
+    → (held (r .em) ≡ emitted-all (held (out .em)) (groups slot-offset (store-rd (out .flow) rd))) × (r .flow ≡ out .flow)
+    → Emits slot-offset h (then-store-rd rd e) r
+then slot-offset rd h e out r a b =
     record { words = rw (b .0, a .words, a .flow, map-append, emitted-all-append); flow = b .1 ∙ a .flow }
 
 -- calls in front of it
-pub first : (slots : ℕ) (h h′ : List ℕ) (cs : List Call) (e : Emission) (r : Emitted) → h′ ≡ emitted-all h (groups slots cs) → Emits slots h′ e r
-    → Emits slots h (calls-first cs e) r
-first slots h h′ cs e r a b = record { words = b .words ∙ rw (a, map-append, emitted-all-append); flow = b .flow }
+pub first : (slot-offset : ℕ) (h h′ : List ℕ) (cs : List Call) (e : Emission) (r : Emitted) → h′ ≡ emitted-all h (groups slot-offset cs) → Emits slot-offset h′ e r
+    → Emits slot-offset h (calls-first cs e) r
+first slot-offset h h′ cs e r a b = record { words = b .words ∙ rw (a, map-append, emitted-all-append); flow = b .flow }

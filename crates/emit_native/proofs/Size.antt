@@ -6,12 +6,13 @@ use mathlib.Core.Bool.{Bool, true, false, cond, _&&_, _||_}
 use mathlib.Core.List.{List, [], _∷_, _++_, flatten}
 use lib.Dec.{eqb}
 use lib.ListN.{length, length-append}
-use Rattle.a64.specs.Emitter.{constant, upper}
+use Rattle.a64.specs.Writers as W
 use Rattle.a64.proofs.Emission.{constant-most}
 use Rattle.isa.specs.declared.decode.Decoded32.{Decoded32}
 use Rattle.emit_native.specs.declared.EmitFlow.{EmitFlow}
 use Rattle.emit_native.specs.declared.EmitFlow.the-variants.{Continue, Terminate, None}
-use Rattle.emit_native.specs.Calls.{Call, emit, mov-imm64, load, store, forms, groups, if-not-0, store-rd, Emission, calls-first, then-store-rd, add-x, and-x}
+use Rattle.a64.specs.Writers.{add-x, and-x}
+use Rattle.emit_native.specs.Calls.{Call, emit, mov-imm64, load, store, rust, call-words, groups, if-not-0, store-rd, Emission, calls-first, then-store-rd}
 use Rattle.emit_native.specs.Isa.{OPCODE-LUI, OPCODE-AUIPC, OPCODE-JAL, OPCODE-JALR, OPCODE-BRANCH, OPCODE-OP-IMM, OPCODE-OP, OPCODE-OP-IMM-32, OPCODE-OP-32, OPCODE-MISC-MEM, F3-FENCE, F3-FENCE-I, not-1, F3-ADD-SUB, F3-SLL, F3-SLT, F3-SLTU, F3-XOR, F3-SRL-SRA, F3-OR, F3-AND, F3-BEQ, F3-BNE, F3-BLT, F3-BGE, F3-BLTU, F3-BGEU, F7-BASE, F7-SUB-SRA, F7-MULDIV}
 use Rattle.emit_native.specs.Decode.{imm-i, imm-u, imm-j, imm-ci, c-funct3, c-op, c-rd, c-rs2, rs1-prime, rs2-prime, imm-addi4spn, imm-addi16sp}
 use Rattle.word.specs.Word.{add}
@@ -19,7 +20,7 @@ use Rattle.emit_native.specs.Instr16 as I
 use Rattle.emit_native.specs.Instr32 as J
 
 abbrev pub size : ℕ → List Call → ℕ
-size slots cs = length (flatten (groups slots cs))
+size slot-offset cs = length (flatten (groups slot-offset cs))
 
 -- at most 4 words for a constant, and 1 for any other call
 abbrev pub cost : Call → ℕ
@@ -37,36 +38,36 @@ pub by : {P : Type 0} (b : Bool) → (b ≡ true → P) → (b ≡ false → P) 
 by true f g = f refl
 by false f g = g refl
 
-module _ (slots : ℕ) where
-  call-size : (c : Call) → length (forms slots c) ≤ cost c
+module _ (slot-offset : ℕ) where
+  call-size : (c : Call) → length (call-words rust slot-offset c) ≤ cost c
   call-size (emit f) = omega arith
   call-size (mov-imm64 rd v) = constant-most rd v
   call-size (load rt n) = omega arith
   call-size (store rt n) = omega arith
 
-  size-cons : (c : Call) (cs : List Call) → size slots (c ∷ cs) ≡ length (forms slots c) + size slots cs
+  size-cons : (c : Call) (cs : List Call) → size slot-offset (c ∷ cs) ≡ length (call-words rust slot-offset c) + size slot-offset cs
   unfolding flatten
-  size-cons c cs = length-append (forms slots c) (flatten (groups slots cs))
+  size-cons c cs = length-append (call-words rust slot-offset c) (flatten (groups slot-offset cs))
 
-  pub size-append : (cs ds : List Call) → size slots (cs ++ ds) ≡ size slots cs + size slots ds
+  pub size-append : (cs ds : List Call) → size slot-offset (cs ++ ds) ≡ size slot-offset cs + size slot-offset ds
   unfolding flatten
   size-append [] ds = omega arith
   size-append (c ∷ cs) ds = omega (arith, size-cons c (cs ++ ds), size-cons c cs, size-append cs ds)
 
-  pub size-le : (cs : List Call) → size slots cs ≤ costs cs
+  pub size-le : (cs : List Call) → size slot-offset cs ≤ costs cs
   unfolding flatten
   size-le [] = omega arith
   size-le (c ∷ cs) = omega (arith, size-cons c cs, size-le cs, call-size c)
 
-  pub if-size : (n : ℕ) (cs : List Call) (k : ℕ) → size slots cs ≤ k → size slots (if-not-0 n cs) ≤ k
+  pub if-size : (n : ℕ) (cs : List Call) (k : ℕ) → size slot-offset cs ≤ k → size slot-offset (if-not-0 n cs) ≤ k
   unfolding flatten
   if-size n cs k h = at (eqb n 0)
     where
-      at : (b : Bool) → size slots (cond b [] cs) ≤ k
+      at : (b : Bool) → size slot-offset (cond b [] cs) ≤ k
       at true = omega arith
       at false = h
 
-  store-size : (f : EmitFlow) (rd : ℕ) → size slots (store-rd f rd) ≤ 1
+  store-size : (f : EmitFlow) (rd : ℕ) → size slot-offset (store-rd f rd) ≤ 1
   unfolding store-rd flatten
   store-size Continue rd = if-size rd (store 11 rd ∷ []) 1 (size-le (store 11 rd ∷ []))
   store-size Terminate rd = omega arith
@@ -74,7 +75,7 @@ module _ (slots : ℕ) where
 
   -- an emission of at most n words
   pub record Within (n : ℕ) (e : Emission) : Type 0 where
-    pub within : size slots (e .calls) ≤ n
+    pub within : size slot-offset (e .calls) ≤ n
 
   -- by the calls' costs
   cheap : {n : ℕ} (e : Emission) → costs (e .calls) ≤ n → Within n e
@@ -90,7 +91,7 @@ module _ (slots : ℕ) where
   -- ---- the arms with constants that are known: their words are counted
 
   op-arm-size : (funct7 funct3 : ℕ) → Within 26 (J.op-arm funct7 funct3)
-  unfolding J.op-arm constant upper flatten
+  unfolding J.op-arm W.mov-imm64 W.movk flatten
   op-arm-size funct7 funct3 =
       by (eqb funct7 F7-BASE && eqb funct3 F3-ADD-SUB) (λ t. rw t (record { within = omega arith }))
       (λ t. rw t (by (eqb funct7 F7-SUB-SRA && eqb funct3 F3-ADD-SUB) (λ t. rw t (record { within = omega arith }))
@@ -113,7 +114,7 @@ module _ (slots : ℕ) where
       (λ t. rw t (record { within = omega arith }))))))))))))))))))))))))))))))))))))
 
   op-32-arm-size : (funct7 funct3 : ℕ) → Within 26 (J.op-32-arm funct7 funct3)
-  unfolding J.op-32-arm constant upper flatten
+  unfolding J.op-32-arm W.mov-imm64 W.movk flatten
   op-32-arm-size funct7 funct3 =
       by (eqb funct7 F7-BASE && eqb funct3 F3-ADD-SUB) (λ t. rw t (record { within = omega arith }))
       (λ t. rw t (by (eqb funct7 F7-SUB-SRA && eqb funct3 F3-ADD-SUB) (λ t. rw t (record { within = omega arith }))
@@ -163,7 +164,7 @@ module _ (slots : ℕ) where
       (λ t. rw t (by (eqb funct3 F3-BGEU) (λ t. rw t (cheap _ (omega arith)))
       (λ t. rw t (cheap _ (omega arith)))))))))))))
 
-  put-size : (rd v : ℕ) → size slots (if-not-0 rd (mov-imm64 11 v ∷ store 11 rd ∷ [])) ≤ 5
+  put-size : (rd v : ℕ) → size slot-offset (if-not-0 rd (mov-imm64 11 v ∷ store 11 rd ∷ [])) ≤ 5
   put-size rd v = if-size rd (mov-imm64 11 v ∷ store 11 rd ∷ []) 5 (size-le (mov-imm64 11 v ∷ store 11 rd ∷ []))
 
   lui-size : (instr : ℕ) (d : Decoded32) → Within 29 (J.lui instr d)

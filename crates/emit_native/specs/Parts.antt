@@ -5,11 +5,12 @@ use mathlib.Core.Bool.{Bool, false, not}
 use mathlib.Core.List.{List}
 use lib.Dec.{eqb}
 use Rattle.isa.specs.declared.decode.Decoded32.{Decoded32}
+use Rattle.a64.specs.declared.emitter.InstrEmitter.{InstrEmitter}
 use Rattle.a64.specs.Parts.{held, emitted-all}
 use Rattle.emit_native.specs.declared.EmitFlow.{EmitFlow}
 use Rattle.emit_native.specs.declared.EmitFlow.the-variants.{Continue, Terminate, None}
 use Rattle.emit_native.specs.declared.Emitted.{Emitted}
-use Rattle.emit_native.specs.Calls.{groups, Emission}
+use Rattle.emit_native.specs.Calls.{Call, groups, Emission}
 
 -- the registers of an instruction
 abbrev pub InRange : Decoded32 → Type 0
@@ -25,3 +26,9 @@ stores None rd = false
 pub record Emits (slot-offset : ℕ) (h : List ℕ) (e : Emission) (r : Emitted) : Type 0 where
   pub words : held (r .em) ≡ emitted-all h (groups slot-offset (e .calls))
   pub flow : r .flow ≡ e .flow
+
+-- the answer r, with the flow f, of an emitter em that holds the words of calls after others
+abbrev pub Answers : EmitFlow → InstrEmitter → Emitted → Type 0
+Answers f em r =
+    (slot-offset : ℕ) (h : List ℕ) (cs : List Call) → held em ≡ emitted-all h (groups slot-offset cs)
+    → Emits slot-offset h (record { calls = cs; flow = f }) r

@@ -8,7 +8,8 @@ use Rattle.isa.specs.declared.decode.Decoded32.{Decoded32}
 use Rattle.emit_native.specs.declared.Host.{Host}
 use Rattle.emit_native.specs.Isa.{OPCODE-LOAD, OPCODE-STORE, OPCODE-LOAD-FP, OPCODE-STORE-FP, OPCODE-SYSTEM, OPCODE-AMO, F3-LB, F3-LH, F3-LW, F3-LD, F3-LBU, F3-LHU, F3-LWU, F3-SB, F3-SH, F3-SW, F3-SD, MEM-OP-LB, MEM-OP-LH, MEM-OP-LW, MEM-OP-LD, MEM-OP-LBU, MEM-OP-LHU, MEM-OP-LWU, MEM-OP-SB, MEM-OP-SH, MEM-OP-SW, MEM-OP-SD}
 use Rattle.emit_native.specs.Decode.{imm-i, imm-s, c-funct3, c-op}
-use Rattle.emit_native.specs.Calls.{add-x, ldr-x, str-x, mov-x, sub-sp-imm, add-sp-imm, blr, ret, Call, emit, mov-imm64, load, if-not-0, Emission, terminate}
+use Rattle.a64.specs.Writers.{add-x, ldr-x, str-x, mov-x, sub-sp-imm, add-sp-imm, blr, ret}
+use Rattle.emit_native.specs.Calls.{Call, emit, mov-imm64, load, if-not-0, Emission, terminate}
 use Rattle.emit_native.specs.Calls as C
 
 -- from the helper's address in X16 on, the same in all three
@@ -88,11 +89,11 @@ store-calls helper mem-op pc instr d prefix-count =
 
 abbrev pub with-load : Host → ℕ → ℕ → Decoded32 → ℕ → Option ℕ → Emission
 with-load h pc instr d prefix-count none = C.none []
-with-load h pc instr d prefix-count (some mem-op) = terminate (load-calls (h .memory) mem-op pc instr d prefix-count)
+with-load h pc instr d prefix-count (some mem-op) = terminate (load-calls (h .«memory_helper») mem-op pc instr d prefix-count)
 
 abbrev pub with-store : Host → ℕ → ℕ → Decoded32 → ℕ → Option ℕ → Emission
 with-store h pc instr d prefix-count none = C.none []
-with-store h pc instr d prefix-count (some mem-op) = terminate (store-calls (h .memory) mem-op pc instr d prefix-count)
+with-store h pc instr d prefix-count (some mem-op) = terminate (store-calls (h .«memory_helper») mem-op pc instr d prefix-count)
 
 unfoldable pub load-helper : Host → ℕ → ℕ → Decoded32 → ℕ → ℕ → Emission
 load-helper h pc instr d prefix-count funct3 = with-load h pc instr d prefix-count (load-op funct3)
@@ -105,9 +106,9 @@ opcode-helper h pc instr d prefix-count opcode =
     cond (eqb opcode OPCODE-SYSTEM) (C.none [])
     (cond (eqb opcode OPCODE-LOAD) (load-helper h pc instr d prefix-count (d .funct3))
     (cond (eqb opcode OPCODE-STORE) (store-helper h pc instr d prefix-count (d .funct3))
-    (cond (eqb opcode OPCODE-LOAD-FP) (terminate (call-exec (h .exec32) pc instr prefix-count))
-    (cond (eqb opcode OPCODE-STORE-FP) (terminate (call-exec (h .exec32) pc instr prefix-count))
-    (cond (eqb opcode OPCODE-AMO) (terminate (call-exec (h .exec32) pc instr prefix-count))
+    (cond (eqb opcode OPCODE-LOAD-FP) (terminate (call-exec (h .helper32) pc instr prefix-count))
+    (cond (eqb opcode OPCODE-STORE-FP) (terminate (call-exec (h .helper32) pc instr prefix-count))
+    (cond (eqb opcode OPCODE-AMO) (terminate (call-exec (h .helper32) pc instr prefix-count))
     (C.none []))))))
 
 unfoldable pub emit-native-term-helper32 : Host → ℕ → ℕ → Decoded32 → ℕ → Emission
@@ -122,4 +123,4 @@ supports op funct3 = cond (eqb op 0b00) (memory-funct3 funct3) (cond (eqb op 0b1
 
 unfoldable pub emit-native-term-helper16 : Host → ℕ → ℕ → ℕ → Emission
 emit-native-term-helper16 h pc instr prefix-count =
-    cond (supports (c-op instr) (c-funct3 instr)) (terminate (call-exec (h .exec16) pc instr prefix-count)) (C.none [])
+    cond (supports (c-op instr) (c-funct3 instr)) (terminate (call-exec (h .helper16) pc instr prefix-count)) (C.none [])

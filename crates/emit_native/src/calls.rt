@@ -2,71 +2,69 @@
 ghost use mathlib.Core.Path.{_≡_};
 ghost use mathlib.Core.List.{[], _∷_};
 ghost use Prim.Native.Nat.{_<_, _≤_};
-ghost use Rattle.a64.specs.declared.Form.{Form};
-ghost use Rattle.a64.specs.Forms.{encode};
-ghost use Rattle.a64.specs.Emitter.{encoded};
+ghost use Rattle.rules.specs.Limits.{max-slot-offset};
 ghost use Rattle.a64.specs.Parts.{held, emitted, emitted-all};
-ghost use Rattle.emit_native.specs.Calls.{Call, forms, groups, reg-off, if-not-0, store-rd};
-ghost use Rattle.emit_native.specs.Parts.{stores};
+ghost use Rattle.emit_native.specs.Calls.{Call, Dialect, call-words, groups, reg-off, if-not-0, store-rd};
+ghost use Rattle.emit_native.specs.Parts.{stores, Answers};
 use crate::EmitFlow;
 use crate::Emitted;
 use a64::A64Emitter;
 use a64::InstrEmitter;
 
 // Rule 9.
-fn reg_off(slots: u16, n: u8) -> u16
-    requires { ⌜ (slots ≤ 32512) × (n < 32) ⌝ }
-    ensures { λ r. ⌜ (r ≡ reg-off slots n) × (r < 32768) ⌝ }
+fn reg_off(slot_offset: u64, n: u8) -> u16
+    requires { ⌜ («slot_offset» ≤ max-slot-offset) × (n < 32) ⌝ }
+    ensures { λ r. ⌜ (r ≡ reg-off «slot_offset» n) × (r < 32768) ⌝ }
 {
-    slots + 8 * (n as u16)
+    (slot_offset + 8 * (n as u64)) as u16
 }
 
 // Guest register n into Xt.
-pub fn load(em: InstrEmitter, slots: u16, rt: u8, n: u8) -> InstrEmitter
-    requires { ⌜ (slots ≤ 32512) × (rt < 32) × (n < 32) ⌝ }
-    ensures { λ r. ⌜ held r ≡ emitted (held em) (encoded (forms slots (Call.load rt n))) ⌝ }
+pub fn load(em: InstrEmitter, slot_offset: u64, rt: u8, n: u8) -> InstrEmitter
+    requires { ⌜ («slot_offset» ≤ max-slot-offset) × (rt < 32) × (n < 32) ⌝ }
+    ensures { λ r. ⌜ held r ≡ emitted (held em) (call-words Dialect.rust «slot_offset» (Call.load rt n)) ⌝ }
 {
-    em.emit(A64Emitter::ldr_x(rt, 0, reg_off(slots, n)))
+    em.emit(A64Emitter::ldr_x(rt, 0, reg_off(slot_offset, n)))
 }
 
 // Xt into guest register n.
-pub fn store(em: InstrEmitter, slots: u16, rt: u8, n: u8) -> InstrEmitter
-    requires { ⌜ (slots ≤ 32512) × (rt < 32) × (n < 32) ⌝ }
-    ensures { λ r. ⌜ held r ≡ emitted (held em) (encoded (forms slots (Call.store rt n))) ⌝ }
+pub fn store(em: InstrEmitter, slot_offset: u64, rt: u8, n: u8) -> InstrEmitter
+    requires { ⌜ («slot_offset» ≤ max-slot-offset) × (rt < 32) × (n < 32) ⌝ }
+    ensures { λ r. ⌜ held r ≡ emitted (held em) (call-words Dialect.rust «slot_offset» (Call.store rt n)) ⌝ }
 {
-    em.emit(A64Emitter::str_x(rt, 0, reg_off(slots, n)))
+    em.emit(A64Emitter::str_x(rt, 0, reg_off(slot_offset, n)))
 }
 
 // Guest registers rs1 and rs2 into X9 and X10.
-pub fn load_both(em: InstrEmitter, slots: u16, rs1: u8, rs2: u8) -> InstrEmitter
-    requires { ⌜ (slots ≤ 32512) × (rs1 < 32) × (rs2 < 32) ⌝ }
-    ensures { λ r. ⌜ held r ≡ emitted-all (held em) (groups slots (Call.load 9 rs1 ∷ Call.load 10 rs2 ∷ [])) ⌝ }
+pub fn load_both(em: InstrEmitter, slot_offset: u64, rs1: u8, rs2: u8) -> InstrEmitter
+    requires { ⌜ («slot_offset» ≤ max-slot-offset) × (rs1 < 32) × (rs2 < 32) ⌝ }
+    ensures { λ r. ⌜ held r ≡ emitted-all (held em) (groups «slot_offset» (Call.load 9 rs1 ∷ Call.load 10 rs2 ∷ [])) ⌝ }
 {
-    let em = load(em, slots, 9, rs1);
-    load(em, slots, 10, rs2)
+    let em = load(em, slot_offset, 9, rs1);
+    load(em, slot_offset, 10, rs2)
 }
 
 // A constant into a guest register that is not 0.
-pub fn mov_reg(em: InstrEmitter, slots: u16, rd: u8, val: u64) -> InstrEmitter
-    requires { ⌜ (slots ≤ 32512) × (rd < 32) ⌝ }
-    ensures { λ r. ⌜ held r ≡ emitted-all (held em) (groups slots (if-not-0 rd (Call.mov-imm64 11 val ∷ Call.store 11 rd ∷ []))) ⌝ }
+pub fn mov_reg(em: InstrEmitter, slot_offset: u64, rd: u8, val: u64) -> InstrEmitter
+    requires { ⌜ («slot_offset» ≤ max-slot-offset) × (rd < 32) ⌝ }
+    ensures { λ r. ⌜ held r ≡ emitted-all (held em) (groups «slot_offset» (if-not-0 rd (Call.mov-imm64 11 val ∷ Call.store 11 rd ∷ []))) ⌝ }
 {
     if rd == 0 {
         return em;
     }
     let em = em.mov_imm64(11, val);
-    store(em, slots, 11, rd)
+    store(em, slot_offset, 11, rd)
 }
 
 // Guest register rs and a constant into X9 and X10, the word of a form on them, and X11 into guest register rd.
-pub fn with_imm(em: InstrEmitter, slots: u16, rs: u8, imm: u64, w: u32, rd: u8) -> InstrEmitter
-    requires { ⌜ (slots ≤ 32512) × (rs < 32) × (rd < 32) ⌝ }
-    ensures { λ r. ⌜ ((f : Form) → w ≡ encode f → held r ≡ emitted-all (held em) (groups slots (Call.load 9 rs ∷ Call.mov-imm64 10 imm ∷ Call.emit f ∷ Call.store 11 rd ∷ []))) ⌝ }
+pub fn with_imm(em: InstrEmitter, slot_offset: u64, rs: u8, imm: u64, w: u32, rd: u8) -> InstrEmitter
+    requires { ⌜ («slot_offset» ≤ max-slot-offset) × (rs < 32) × (rd < 32) ⌝ }
+    ensures { λ r. ⌜ held r ≡ emitted-all (held em) (groups «slot_offset» (Call.load 9 rs ∷ Call.mov-imm64 10 imm ∷ Call.emit w ∷ Call.store 11 rd ∷ [])) ⌝ }
 {
-    let em = load(em, slots, 9, rs);
+    let em = load(em, slot_offset, 9, rs);
     let em = em.mov_imm64(10, imm);
     let em = em.emit(w);
-    store(em, slots, 11, rd)
+    store(em, slot_offset, 11, rd)
 }
 
 // Whether a match is followed by a store to rd.
@@ -81,20 +79,20 @@ fn stores(flow: EmitFlow, rd: u8) -> bool
 }
 
 // X11 into a guest register that is not 0, after a match whose arm was found.
-pub fn store_rd(out: Emitted, slots: u16, rd: u8) -> Emitted
-    requires { ⌜ (slots ≤ 32512) × (rd < 32) ⌝ }
-    ensures { λ r. ⌜ (held (r .em) ≡ emitted-all (held (out .em)) (groups slots (store-rd (out .flow) rd))) × (r .flow ≡ out .flow) ⌝ }
+pub fn store_rd(out: Emitted, slot_offset: u64, rd: u8) -> Emitted
+    requires { ⌜ («slot_offset» ≤ max-slot-offset) × (rd < 32) ⌝ }
+    ensures { λ r. ⌜ (held (r .em) ≡ emitted-all (held (out .em)) (groups «slot_offset» (store-rd (out .flow) rd))) × (r .flow ≡ out .flow) ⌝ }
 {
     let flow = out.flow;
     let em = out.em;
     let test = stores(flow, rd);
-    let em = em.emit_if(test, A64Emitter::str_x(11, 0, reg_off(slots, rd)));
+    let em = em.emit_if(test, A64Emitter::str_x(11, 0, reg_off(slot_offset, rd)));
     Emitted { em, flow }
 }
 
 // `Some(EmitFlow::Continue)`, `Some(EmitFlow::Terminate)` and `None`.
 pub fn go_on(em: InstrEmitter) -> Emitted
-    ensures { λ r. ⌜ (r .em ≡ em) × (r .flow ≡ EmitFlow.Continue) ⌝ }
+    ensures { λ r. ⌜ Answers EmitFlow.Continue em r ⌝ }
 {
     Emitted {
         em,
@@ -103,7 +101,7 @@ pub fn go_on(em: InstrEmitter) -> Emitted
 }
 
 pub fn terminate(em: InstrEmitter) -> Emitted
-    ensures { λ r. ⌜ (r .em ≡ em) × (r .flow ≡ EmitFlow.Terminate) ⌝ }
+    ensures { λ r. ⌜ Answers EmitFlow.Terminate em r ⌝ }
 {
     Emitted {
         em,
@@ -112,7 +110,7 @@ pub fn terminate(em: InstrEmitter) -> Emitted
 }
 
 pub fn none(em: InstrEmitter) -> Emitted
-    ensures { λ r. ⌜ (r .em ≡ em) × (r .flow ≡ EmitFlow.None) ⌝ }
+    ensures { λ r. ⌜ Answers EmitFlow.None em r ⌝ }
 {
     Emitted {
         em,

@@ -24,9 +24,9 @@ pub struct Emitted {
 
 // What the host gives: the slot offset, the three helpers' addresses, and whether C.EBREAK is ignored.
 pub struct Host {
-    pub slots: u16,
-    pub memory: u64,
-    pub exec32: u64,
-    pub exec16: u64,
-    pub ebreak: bool,
+    pub slot_offset: u64,
+    pub memory_helper: u64,
+    pub helper32: u64,
+    pub helper16: u64,
+    pub ignore_ebreak: bool,
 }

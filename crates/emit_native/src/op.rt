@@ -2,11 +2,10 @@
 ghost use mathlib.Core.Path.{_≡_};
 ghost use mathlib.Core.List.{[], _∷_};
 ghost use Prim.Native.Nat.{ℕ, _<_};
-ghost use Rattle.a64.specs.declared.Form.{Form};
-ghost use Rattle.a64.specs.Forms.{encode};
 ghost use Rattle.a64.specs.Parts.{held, emitted-all};
 ghost use Rattle.emit_native.specs.Isa.{F7-BASE, F7-SUB-SRA, F7-MULDIV, C-EQ, C-MI, u64-MAX, i64-MIN};
-ghost use Rattle.emit_native.specs.Calls.{Call, groups, sub-x, and-x, mul-x, umulh-x, cmp-x, csel-x};
+ghost use Rattle.a64.specs.Writers.{sub-x, and-x, mul-x, umulh-x, cmp-x, csel-x};
+ghost use Rattle.emit_native.specs.Calls.{Call, groups};
 ghost use Rattle.emit_native.specs.Parts.{Emits};
 ghost use Rattle.emit_native.specs.Instr32.{op-arm};
 use crate::Emitted;
@@ -48,7 +47,7 @@ pub fn emit_zero_divisor(em: InstrEmitter, zero: u8, ones: u8) -> InstrEmitter
 // X11 is the remainder of the division by the word w into Xq, or the dividend X9 where the divisor X10 is 0.
 pub fn emit_remainder(em: InstrEmitter, w: u32, q: u8, zero: u8) -> InstrEmitter
     requires { ⌜ (q < 32) × (zero < 32) ⌝ }
-    ensures { λ r. ⌜ ((f : Form) → w ≡ encode f → held r ≡ emitted-all (held em) (groups 0 (Call.emit f ∷ Call.emit (mul-x q q 10) ∷ Call.emit (sub-x 11 9 q) ∷ Call.mov-imm64 zero 0 ∷ Call.emit (cmp-x 10 zero) ∷ Call.emit (csel-x 11 9 11 C-EQ) ∷ []))) ⌝ }
+    ensures { λ r. ⌜ held r ≡ emitted-all (held em) (groups 0 (Call.emit w ∷ Call.emit (mul-x q q 10) ∷ Call.emit (sub-x 11 9 q) ∷ Call.mov-imm64 zero 0 ∷ Call.emit (cmp-x 10 zero) ∷ Call.emit (csel-x 11 9 11 C-EQ) ∷ [])) ⌝ }
 {
     let em = em.emit(w);
     let em = em.emit(A64Emitter::mul_x(q, q, 10));
@@ -82,7 +81,7 @@ fn emit_overflow(em: InstrEmitter) -> InstrEmitter
 }
 
 fn emit_op_base(em: InstrEmitter, funct3: u32) -> Emitted
-    ensures { λ r. ⌜ ((slots : ℕ) → Emits slots (held em) (op-arm F7-BASE funct3) r) ⌝ }
+    ensures { λ r. ⌜ ((slot-offset : ℕ) → Emits slot-offset (held em) (op-arm F7-BASE funct3) r) ⌝ }
 {
     match funct3 {
         isa::F3_ADD_SUB => go_on(em.emit(A64Emitter::add_x(11, 9, 10))),
@@ -98,7 +97,7 @@ fn emit_op_base(em: InstrEmitter, funct3: u32) -> Emitted
 }
 
 fn emit_op_sub_sra(em: InstrEmitter, funct3: u32) -> Emitted
-    ensures { λ r. ⌜ ((slots : ℕ) → Emits slots (held em) (op-arm F7-SUB-SRA funct3) r) ⌝ }
+    ensures { λ r. ⌜ ((slot-offset : ℕ) → Emits slot-offset (held em) (op-arm F7-SUB-SRA funct3) r) ⌝ }
 {
     match funct3 {
         isa::F3_ADD_SUB => go_on(em.emit(A64Emitter::sub_x(11, 9, 10))),
@@ -119,7 +118,7 @@ fn emit_mulhsu(em: InstrEmitter) -> InstrEmitter
 }
 
 fn emit_op_muldiv(em: InstrEmitter, funct3: u32) -> Emitted
-    ensures { λ r. ⌜ ((slots : ℕ) → Emits slots (held em) (op-arm F7-MULDIV funct3) r) ⌝ }
+    ensures { λ r. ⌜ ((slot-offset : ℕ) → Emits slot-offset (held em) (op-arm F7-MULDIV funct3) r) ⌝ }
 {
     match funct3 {
         isa::F3_ADD_SUB => go_on(em.emit(A64Emitter::mul_x(11, 9, 10))),
@@ -154,7 +153,7 @@ fn emit_op_muldiv(em: InstrEmitter, funct3: u32) -> Emitted
 }
 
 pub fn emit_op_arm(em: InstrEmitter, funct7: u32, funct3: u32) -> Emitted
-    ensures { λ r. ⌜ ((slots : ℕ) → Emits slots (held em) (op-arm funct7 funct3) r) ⌝ }
+    ensures { λ r. ⌜ ((slot-offset : ℕ) → Emits slot-offset (held em) (op-arm funct7 funct3) r) ⌝ }
 {
     match funct7 {
         isa::F7_BASE => emit_op_base(em, funct3),

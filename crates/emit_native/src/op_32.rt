@@ -4,7 +4,8 @@ ghost use mathlib.Core.List.{[], _∷_};
 ghost use Prim.Native.Nat.{ℕ, _<_};
 ghost use Rattle.a64.specs.Parts.{held, emitted-all};
 ghost use Rattle.emit_native.specs.Isa.{F7-BASE, F7-SUB-SRA, F7-MULDIV};
-ghost use Rattle.emit_native.specs.Calls.{Call, groups, and-x, sxtw-x};
+ghost use Rattle.a64.specs.Writers.{and-x, sxtw-x};
+ghost use Rattle.emit_native.specs.Calls.{Call, groups};
 ghost use Rattle.emit_native.specs.Parts.{Emits};
 ghost use Rattle.emit_native.specs.Instr32.{op-32-arm};
 use crate::Emitted;
@@ -49,7 +50,7 @@ fn emit_zero_extended(em: InstrEmitter) -> InstrEmitter
 }
 
 fn emit_op_32_base(em: InstrEmitter, funct3: u32) -> Emitted
-    ensures { λ r. ⌜ ((slots : ℕ) → Emits slots (held em) (op-32-arm F7-BASE funct3) r) ⌝ }
+    ensures { λ r. ⌜ ((slot-offset : ℕ) → Emits slot-offset (held em) (op-32-arm F7-BASE funct3) r) ⌝ }
 {
     match funct3 {
         isa::F3_ADD_SUB => go_on(emit_sxtw(em.emit(A64Emitter::add_x(11, 9, 10)))),
@@ -68,7 +69,7 @@ fn emit_op_32_base(em: InstrEmitter, funct3: u32) -> Emitted
 }
 
 fn emit_op_32_sub_sra(em: InstrEmitter, funct3: u32) -> Emitted
-    ensures { λ r. ⌜ ((slots : ℕ) → Emits slots (held em) (op-32-arm F7-SUB-SRA funct3) r) ⌝ }
+    ensures { λ r. ⌜ ((slot-offset : ℕ) → Emits slot-offset (held em) (op-32-arm F7-SUB-SRA funct3) r) ⌝ }
 {
     match funct3 {
         isa::F3_ADD_SUB => go_on(emit_sxtw(em.emit(A64Emitter::sub_x(11, 9, 10)))),
@@ -82,7 +83,7 @@ fn emit_op_32_sub_sra(em: InstrEmitter, funct3: u32) -> Emitted
 }
 
 fn emit_op_32_muldiv(em: InstrEmitter, funct3: u32) -> Emitted
-    ensures { λ r. ⌜ ((slots : ℕ) → Emits slots (held em) (op-32-arm F7-MULDIV funct3) r) ⌝ }
+    ensures { λ r. ⌜ ((slot-offset : ℕ) → Emits slot-offset (held em) (op-32-arm F7-MULDIV funct3) r) ⌝ }
 {
     match funct3 {
         // MULW
@@ -114,7 +115,7 @@ fn emit_op_32_muldiv(em: InstrEmitter, funct3: u32) -> Emitted
 }
 
 pub fn emit_op_32_arm(em: InstrEmitter, funct7: u32, funct3: u32) -> Emitted
-    ensures { λ r. ⌜ ((slots : ℕ) → Emits slots (held em) (op-32-arm funct7 funct3) r) ⌝ }
+    ensures { λ r. ⌜ ((slot-offset : ℕ) → Emits slot-offset (held em) (op-32-arm funct7 funct3) r) ⌝ }
 {
     match funct7 {
         isa::F7_BASE => emit_op_32_base(em, funct3),

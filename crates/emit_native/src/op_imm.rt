@@ -16,7 +16,7 @@ use a64::InstrEmitter;
 
 // SRLI and SRAI.
 fn emit_op_imm_right(em: InstrEmitter, imm: u64, imm12: u16) -> Emitted
-    ensures { λ r. ⌜ ((slots : ℕ) → Emits slots (held em) (op-imm-arm imm imm12 F3-SRL-SRA) r) ⌝ }
+    ensures { λ r. ⌜ ((slot-offset : ℕ) → Emits slot-offset (held em) (op-imm-arm imm imm12 F3-SRL-SRA) r) ⌝ }
 {
     let em = em.mov_imm64(10, (imm12 % 64) as u64);
     match imm12 / 64 % 64 {
@@ -27,7 +27,7 @@ fn emit_op_imm_right(em: InstrEmitter, imm: u64, imm12: u16) -> Emitted
 }
 
 pub fn emit_op_imm_arm(em: InstrEmitter, imm: u64, imm12: u16, funct3: u32) -> Emitted
-    ensures { λ r. ⌜ ((slots : ℕ) → Emits slots (held em) (op-imm-arm imm imm12 funct3) r) ⌝ }
+    ensures { λ r. ⌜ ((slot-offset : ℕ) → Emits slot-offset (held em) (op-imm-arm imm imm12 funct3) r) ⌝ }
 {
     match funct3 {
         isa::F3_ADD_SUB => go_on(em.mov_imm64(10, imm).emit(A64Emitter::add_x(11, 9, 10))),
@@ -51,7 +51,7 @@ pub fn emit_op_imm_arm(em: InstrEmitter, imm: u64, imm12: u16, funct3: u32) -> E
 
 // SRLIW and SRAIW.
 fn emit_op_imm_32_right(em: InstrEmitter, imm: u64, imm12: u16, funct7: u32) -> Emitted
-    ensures { λ r. ⌜ ((slots : ℕ) → Emits slots (held em) (op-imm-32-arm imm imm12 funct7 F3-SRL-SRA) r) ⌝ }
+    ensures { λ r. ⌜ ((slot-offset : ℕ) → Emits slot-offset (held em) (op-imm-32-arm imm imm12 funct7 F3-SRL-SRA) r) ⌝ }
 {
     let em = em.mov_imm64(10, (imm12 % 32) as u64);
     match funct7 {
@@ -75,7 +75,7 @@ pub fn emit_op_imm_32_arm(
     funct7: u32,
     funct3: u32,
 ) -> Emitted
-    ensures { λ r. ⌜ ((slots : ℕ) → Emits slots (held em) (op-imm-32-arm imm imm12 funct7 funct3) r) ⌝ }
+    ensures { λ r. ⌜ ((slot-offset : ℕ) → Emits slot-offset (held em) (op-imm-32-arm imm imm12 funct7 funct3) r) ⌝ }
 {
     match funct3 {
         isa::F3_ADD_SUB => {

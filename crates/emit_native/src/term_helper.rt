@@ -2,8 +2,10 @@
 ghost use mathlib.Core.Path.{_≡_};
 ghost use mathlib.Core.List.{[], _∷_};
 ghost use Prim.Native.Nat.{ℕ, _≤_};
+ghost use Rattle.rules.specs.Limits.{max-slot-offset};
 ghost use Rattle.a64.specs.Parts.{held, emitted-all};
-ghost use Rattle.emit_native.specs.Calls.{Call, groups, add-x, mov-x, if-not-0, terminate};
+ghost use Rattle.a64.specs.Writers.{add-x, mov-x};
+ghost use Rattle.emit_native.specs.Calls.{Call, groups, if-not-0, terminate};
 ghost use Rattle.emit_native.specs.Parts.{Emits, InRange};
 ghost use Rattle.emit_native.specs.TermHelper.{call-helper, call-exec, load-calls, store-calls, load-helper, store-helper, opcode-helper, memory-funct3, supports, emit-native-term-helper16, emit-native-term-helper32};
 use crate::Emitted;
@@ -48,7 +50,7 @@ fn emit_pointers(em: InstrEmitter) -> InstrEmitter
 
 // The instructions before the helper's, where there are any, on top of its own count.
 fn emit_prefix(em: InstrEmitter, prefix: u32) -> InstrEmitter
-    ensures { λ r. ⌜ ((slots : ℕ) → held r ≡ emitted-all (held em) (groups slots (if-not-0 prefix (Call.mov-imm64 12 prefix ∷ Call.emit (add-x 1 1 12) ∷ [])))) ⌝ }
+    ensures { λ r. ⌜ ((slot-offset : ℕ) → held r ≡ emitted-all (held em) (groups slot-offset (if-not-0 prefix (Call.mov-imm64 12 prefix ∷ Call.emit (add-x 1 1 12) ∷ [])))) ⌝ }
 {
     if prefix == 0 {
         return em;
@@ -59,7 +61,7 @@ fn emit_prefix(em: InstrEmitter, prefix: u32) -> InstrEmitter
 
 // The call, with X30 kept on the stack, and the return.
 fn emit_call(em: InstrEmitter, helper: u64, prefix: u32) -> InstrEmitter
-    ensures { λ r. ⌜ ((slots : ℕ) → held r ≡ emitted-all (held em) (groups slots (call-helper helper prefix))) ⌝ }
+    ensures { λ r. ⌜ ((slot-offset : ℕ) → held r ≡ emitted-all (held em) (groups slot-offset (call-helper helper prefix))) ⌝ }
 {
     let em = em.mov_imm64(16, helper);
     let em = em.emit(A64Emitter::sub_sp_imm(16));
@@ -73,7 +75,7 @@ fn emit_call(em: InstrEmitter, helper: u64, prefix: u32) -> InstrEmitter
 
 // The arguments of a general helper: X1 to X5 into X0 to X4, the instruction and the PC.
 fn emit_exec(em: InstrEmitter, helper: u64, pc: u64, instr: u32, prefix: u32) -> Emitted
-    ensures { λ r. ⌜ ((slots : ℕ) → Emits slots (held em) (terminate (call-exec helper pc instr prefix)) r) ⌝ }
+    ensures { λ r. ⌜ ((slot-offset : ℕ) → Emits slot-offset (held em) (terminate (call-exec helper pc instr prefix)) r) ⌝ }
 {
     let em = emit_pointers(em);
     let em = em.emit(A64Emitter::mov_x(3, 4));
@@ -93,10 +95,10 @@ fn emit_load(
     d: Decoded32,
     prefix: u32,
 ) -> Emitted
-    requires { ⌜ (host .slots ≤ 32512) × InRange d ⌝ }
-    ensures { λ r. ⌜ Emits (host .slots) (held em) (terminate (load-calls (host .memory) op pc instr d prefix)) r ⌝ }
+    requires { ⌜ (host .«slot_offset» ≤ max-slot-offset) × InRange d ⌝ }
+    ensures { λ r. ⌜ Emits (host .«slot_offset») (held em) (terminate (load-calls (host .«memory_helper») op pc instr d prefix)) r ⌝ }
 {
-    let em = load(em, host.slots, 9, d.rs1);
+    let em = load(em, host.slot_offset, 9, d.rs1);
     let em = em.mov_imm64(10, isa::decode::imm_i(instr));
     let em = em.emit(A64Emitter::add_x(11, 9, 10));
     let em = emit_pointers(em);
@@ -105,7 +107,7 @@ fn emit_load(
     let em = em.mov_imm64(5, 0);
     let em = em.emit(A64Emitter::mov_x(6, 11));
     let em = em.mov_imm64(7, pc);
-    terminate(emit_call(em, host.memory, prefix))
+    terminate(emit_call(em, host.memory_helper, prefix))
 }
 
 // For a store: the address in X11, the value in X12.
@@ -118,20 +120,20 @@ fn emit_store(
     d: Decoded32,
     prefix: u32,
 ) -> Emitted
-    requires { ⌜ (host .slots ≤ 32512) × InRange d ⌝ }
-    ensures { λ r. ⌜ Emits (host .slots) (held em) (terminate (store-calls (host .memory) op pc instr d prefix)) r ⌝ }
+    requires { ⌜ (host .«slot_offset» ≤ max-slot-offset) × InRange d ⌝ }
+    ensures { λ r. ⌜ Emits (host .«slot_offset») (held em) (terminate (store-calls (host .«memory_helper») op pc instr d prefix)) r ⌝ }
 {
-    let em = load(em, host.slots, 9, d.rs1);
+    let em = load(em, host.slot_offset, 9, d.rs1);
     let em = em.mov_imm64(10, isa::decode::imm_s(instr));
     let em = em.emit(A64Emitter::add_x(11, 9, 10));
-    let em = load(em, host.slots, 12, d.rs2);
+    let em = load(em, host.slot_offset, 12, d.rs2);
     let em = emit_pointers(em);
     let em = em.mov_imm64(3, op);
     let em = em.mov_imm64(4, d.rd as u64);
     let em = em.emit(A64Emitter::mov_x(5, 12));
     let em = em.emit(A64Emitter::mov_x(6, 11));
     let em = em.mov_imm64(7, pc);
-    terminate(emit_call(em, host.memory, prefix))
+    terminate(emit_call(em, host.memory_helper, prefix))
 }
 
 fn emit_load_helper(
@@ -143,8 +145,8 @@ fn emit_load_helper(
     prefix: u32,
     funct3: u32,
 ) -> Emitted
-    requires { ⌜ (host .slots ≤ 32512) × InRange d ⌝ }
-    ensures { λ r. ⌜ Emits (host .slots) (held em) (load-helper host pc instr d prefix funct3) r ⌝ }
+    requires { ⌜ (host .«slot_offset» ≤ max-slot-offset) × InRange d ⌝ }
+    ensures { λ r. ⌜ Emits (host .«slot_offset») (held em) (load-helper host pc instr d prefix funct3) r ⌝ }
 {
     match funct3 {
         isa::F3_LB => emit_load(em, host, MEM_OP_LB, pc, instr, d, prefix),
@@ -167,8 +169,8 @@ fn emit_store_helper(
     prefix: u32,
     funct3: u32,
 ) -> Emitted
-    requires { ⌜ (host .slots ≤ 32512) × InRange d ⌝ }
-    ensures { λ r. ⌜ Emits (host .slots) (held em) (store-helper host pc instr d prefix funct3) r ⌝ }
+    requires { ⌜ (host .«slot_offset» ≤ max-slot-offset) × InRange d ⌝ }
+    ensures { λ r. ⌜ Emits (host .«slot_offset») (held em) (store-helper host pc instr d prefix funct3) r ⌝ }
 {
     match funct3 {
         isa::F3_SB => emit_store(em, host, MEM_OP_SB, pc, instr, d, prefix),
@@ -189,16 +191,16 @@ fn emit_opcode_helper(
     prefix: u32,
     opcode: u32,
 ) -> Emitted
-    requires { ⌜ (host .slots ≤ 32512) × InRange d ⌝ }
-    ensures { λ r. ⌜ Emits (host .slots) (held em) (opcode-helper host pc instr d prefix opcode) r ⌝ }
+    requires { ⌜ (host .«slot_offset» ≤ max-slot-offset) × InRange d ⌝ }
+    ensures { λ r. ⌜ Emits (host .«slot_offset») (held em) (opcode-helper host pc instr d prefix opcode) r ⌝ }
 {
     match opcode {
         isa::OPCODE_SYSTEM => none(em),
         isa::OPCODE_LOAD => emit_load_helper(em, host, pc, instr, d, prefix, d.funct3 as u32),
         isa::OPCODE_STORE => emit_store_helper(em, host, pc, instr, d, prefix, d.funct3 as u32),
-        isa::OPCODE_LOAD_FP => emit_exec(em, host.exec32, pc, instr, prefix),
-        isa::OPCODE_STORE_FP => emit_exec(em, host.exec32, pc, instr, prefix),
-        isa::OPCODE_AMO => emit_exec(em, host.exec32, pc, instr, prefix),
+        isa::OPCODE_LOAD_FP => emit_exec(em, host.helper32, pc, instr, prefix),
+        isa::OPCODE_STORE_FP => emit_exec(em, host.helper32, pc, instr, prefix),
+        isa::OPCODE_AMO => emit_exec(em, host.helper32, pc, instr, prefix),
         _ => none(em),
     }
 }
@@ -211,8 +213,8 @@ pub fn emit_native_term_helper32(
     d: Decoded32,
     prefix: u32,
 ) -> Emitted
-    requires { ⌜ (host .slots ≤ 32512) × InRange d ⌝ }
-    ensures { λ r. ⌜ Emits (host .slots) (held em) (emit-native-term-helper32 host pc instr d prefix) r ⌝ }
+    requires { ⌜ (host .«slot_offset» ≤ max-slot-offset) × InRange d ⌝ }
+    ensures { λ r. ⌜ Emits (host .«slot_offset») (held em) (emit-native-term-helper32 host pc instr d prefix) r ⌝ }
 {
     emit_opcode_helper(em, host, pc, instr, d, prefix, d.opcode as u32)
 }
@@ -247,10 +249,10 @@ pub fn emit_native_term_helper16(
     instr: u16,
     prefix: u32,
 ) -> Emitted
-    ensures { λ r. ⌜ Emits (host .slots) (held em) (emit-native-term-helper16 host pc instr prefix) r ⌝ }
+    ensures { λ r. ⌜ Emits (host .«slot_offset») (held em) (emit-native-term-helper16 host pc instr prefix) r ⌝ }
 {
     if supports(instr % 4, instr / 0x2000 % 8) {
-        return emit_exec(em, host.exec16, pc, instr as u32, prefix);
+        return emit_exec(em, host.helper16, pc, instr as u32, prefix);
     }
     none(em)
 }

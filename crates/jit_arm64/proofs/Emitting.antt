@@ -8,7 +8,7 @@ use mathlib.Core.List.{List, [], _∷_, _++_, append-assoc, append-nil, map-appe
 use lib.Dec.{eqb}
 use lib.ListN.{length, take, length-append, length-take}
 use borrow.Author.Tests.{eqb-true, eq-eqb, ne-eqb}
-use Rattle.a64.specs.declared.Form.{Form}
+use Rattle.a64.specs.declared.forms.Form.{Form}
 use Rattle.a64.specs.Forms.{encode}
 use Rattle.a64.specs.Emitter.{encoded, halfword, constant}
 use Rattle.a64.specs.Parts.{max-words, held, Added}
@@ -19,7 +19,8 @@ use Rattle.emit_native.specs.declared.Emitted.{Emitted}
 use Rattle.emit_native.specs.declared.Host.{Host}
 use Rattle.emit_native.specs.Isa.{OPCODE-LOAD, OPCODE-STORE, OPCODE-LOAD-FP, OPCODE-STORE-FP, OPCODE-SYSTEM, OPCODE-AMO, F3-LB, F3-LH, F3-LW, F3-LD, F3-LBU, F3-LHU, F3-LWU, F3-SB, F3-SH, F3-SW, F3-SD}
 use Rattle.emit_native.specs.Decode.{decode32, c-op, c-funct3, imm-i, imm-s}
-use Rattle.emit_native.specs.Calls.{Call, emit, mov-imm64, load, forms, groups, words, if-not-0, Emission, none, add-x, ldr-x, str-x, mov-x, sub-sp-imm, add-sp-imm, blr, ret}
+use Rattle.a64.specs.Writers.{add-x, ldr-x, str-x, mov-x, sub-sp-imm, add-sp-imm, blr, ret}
+use Rattle.emit_native.specs.Calls.{Call, emit, mov-imm64, load, forms, groups, words, if-not-0, Emission, none}
 use Rattle.emit_native.specs.Parts.{Emits}
 use Rattle.emit_native.specs.Instr16.{emit-native-instr16, quadrant-0, quadrant-2}
 use Rattle.emit_native.specs.Instr32.{emit-native-instr}

@@ -8,7 +8,8 @@ use Rattle.word.specs.Word.{add}
 use Rattle.a64.specs.declared.A64Emitter.{A64Emitter}
 use Rattle.a64.specs.Parts.{max-words, block-words, emitted-in, emitted-all}
 use Rattle.a64.proofs.Emission.{emitted-fits, emitted-all-new}
-use Rattle.emit_native.specs.Calls.{Call, emit, mov-imm64, ret, groups, words}
+use Rattle.a64.specs.Writers.{ret}
+use Rattle.emit_native.specs.Calls.{Call, emit, mov-imm64, groups, words}
 use Rattle.emit_native.proofs.Size.{size, size-append, size-le}
 use Rattle.jit_arm64.specs.declared.block.Stop.{Stop}
 use Rattle.jit_arm64.specs.declared.block.Stop.the-variants.{Limit, Ended, Helper, Uncovered, NotFetched}

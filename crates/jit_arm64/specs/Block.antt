@@ -12,7 +12,8 @@ use Rattle.emit_native.specs.declared.EmitFlow.{EmitFlow}
 use Rattle.emit_native.specs.declared.EmitFlow.the-variants.{Continue, Terminate, None}
 use Rattle.jit_arm64.specs.declared.block.Stop.{Stop}
 use Rattle.jit_arm64.specs.declared.block.Stop.the-variants.{Limit, Ended, Helper, Uncovered, NotFetched}
-use Rattle.emit_native.specs.Calls.{Call, emit, mov-imm64, ret, Emission}
+use Rattle.a64.specs.Writers.{ret}
+use Rattle.emit_native.specs.Calls.{Call, emit, mov-imm64, Emission}
 use Rattle.emit_native.specs.Decode.{decode32}
 use Rattle.emit_native.specs.Instr16.{emit-native-instr16}
 use Rattle.emit_native.specs.Instr32.{emit-native-instr}

@@ -19,7 +19,8 @@ use Rattle.rv64.specs.Execute.{read, write, exec}
 use Rattle.rv64.specs.Compressed as C
 use Rattle.emit_native.specs.declared.EmitFlow.{EmitFlow}
 use Rattle.emit_native.specs.Isa.{not-1}
-use Rattle.emit_native.specs.Calls.{emit, mov-imm64, load, store, and-x, orr-x, Emission, continue, terminate, none, calls-first, store-rd}
+use Rattle.a64.specs.Writers.{and-x, orr-x}
+use Rattle.emit_native.specs.Calls.{emit, mov-imm64, load, store, Emission, continue, terminate, none, calls-first, store-rd}
 use Rattle.emit_native.specs.Decode as J
 use Rattle.emit_native.specs.Instr16 as E
 use Rattle.emit_native.proofs.Decoding.{imm-ci-is, shamt-is, imm-addi4spn-is, imm-addi16sp-is, imm-cj-is, imm-cb-is}

@@ -14,10 +14,10 @@ use borrow.Author.Tests.{leb-true, le-leb, eq-eqb, ne-eqb, eqb-true, eqb-false}
 use Rattle.word.specs.Word.{wrap, sext, sign, magnitude, signed, asr, sdiv, mulh, sext128}
 use Rattle.word.proofs.Laws.{product-below}
 use Rattle.le.specs.Le as Le
-use Rattle.a64.specs.declared.Op.{Op}
-use Rattle.a64.specs.declared.Op.the-variants.{Add, Sub, And, Orr, Eor, Lslv, Lsrv, Asrv, Mul, Smulh, Umulh, Udiv, Sdiv}
-use Rattle.a64.specs.declared.Form.{Form}
-use Rattle.a64.specs.declared.Form.the-variants.{DataProcessing, Ldr, Str, Movz, Movk, Cmp, Csel, Sxtw, AddSp, SubSp, Blr, Ret, Unreadable}
+use Rattle.a64.specs.declared.forms.Op.{Op}
+use Rattle.a64.specs.declared.forms.Op.the-variants.{Add, Sub, And, Orr, Eor, Lslv, Lsrv, Asrv, Mul, Smulh, Umulh, Udiv, Sdiv}
+use Rattle.a64.specs.declared.forms.Form.{Form}
+use Rattle.a64.specs.declared.forms.Form.the-variants.{DataProcessing, Ldr, Str, Movz, Movk, Cmp, Csel, Sxtw, AddSp, SubSp, Blr, Ret, Unreadable}
 use Rattle.a64_run.specs.declared.state.Flags.{Flags}
 use Rattle.a64_run.specs.Exec.{State, machine, op-value, compared, holds, address, reaches, exec}
 use Rattle.a64_run.proofs.Straight.{Straight, straight-append, constant-goes}

@@ -12,8 +12,8 @@ use borrow.Author.Tests.{ne-eqb, leb-true, leb-false, le-leb, lt-leb, ltb-true, 
 use Rattle.word.specs.Word.{wrap, add}
 use Rattle.le.specs.Le.{Bytes, number}
 use Rattle.le.proofs.Laws.{load-lt}
-use Rattle.a64.specs.declared.Form.{Form}
-use Rattle.a64.specs.declared.Form.the-variants.{Ret}
+use Rattle.a64.specs.declared.forms.Form.{Form}
+use Rattle.a64.specs.declared.forms.Form.the-variants.{Ret}
 use Rattle.a64.specs.Forms.{encode}
 use Rattle.a64.specs.Emitter.{encoded, bytes}
 use Rattle.a64.proofs.Coding.{decode-encode, encode-lt}
@@ -26,7 +26,8 @@ use Rattle.a64_run.proofs.Slots.{Apart}
 use Rattle.rv64.specs.Run as R
 use Rattle.emit_native.specs.declared.Host as JH
 use Rattle.jit_arm64.specs.declared.block.Stop.{Stop}
-use Rattle.emit_native.specs.Calls.{Call, emit, mov-imm64, ret, groups, reg-off, Emission}
+use Rattle.a64.specs.Writers.{ret}
+use Rattle.emit_native.specs.Calls.{Call, emit, mov-imm64, groups, reg-off, Emission}
 use mathlib.Core.Option.{Option, none, some}
 use Rattle.emit_native.specs.declared.EmitFlow.{EmitFlow}
 use Rattle.emit_native.specs.Calls as JC

@@ -3,7 +3,7 @@ use Rattle.emit_native.proofs.calls.with_imm.Statement.{statement}
 use Rattle.emit_native.proofs.calls.with_imm.Tie as tie
 
 returns : tie.Need-returns
-returns c = λ f e. rw (c .store .ensures, c .before .emit .ensures, c .before .before .mov-imm64 .ensures, c .before .before .before .load .ensures, e)
+returns c = rw (c .store .ensures, c .before .emit .ensures, c .before .before .mov-imm64 .ensures, c .before .before .before .load .ensures)
 
 pub with-imm-spec : {M : Type 1} → statement M
 with-imm-spec =

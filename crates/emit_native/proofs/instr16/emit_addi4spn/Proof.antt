@@ -1,6 +1,7 @@
+use mathlib.Core.Path.{refl}
 use borrow.Author.Tests.{eq-eqb, ne-eqb}
 use Rattle.emit_native.specs.Instr16.{addi4spn}
-use Rattle.emit_native.specs.Calls.{add-x}
+use Rattle.a64.specs.Writers.{add-x}
 use Rattle.emit_native.proofs.Decoding.{imm-addi4spn-is}
 use borrow.Author.Needs.{needs}
 use Rattle.emit_native.proofs.instr16.emit_addi4spn.Statement.{statement}
@@ -8,11 +9,11 @@ use Rattle.emit_native.proofs.instr16.emit_addi4spn.Tie as tie
 
 returns : tie.Need-returns
 unfolding addi4spn
-returns c = rw (imm-addi4spn-is (c .before .before .before .args .instr), ← c .before .before .imm-ciw .ensures, eq-eqb _ _ (c .before .if1 .taken)) (record { words = rw (c .none .ensures .0); flow = c .none .ensures .1 })
+returns c = rw (imm-addi4spn-is (c .before .before .before .args .instr), ← c .before .before .imm-ciw .ensures, eq-eqb _ _ (c .before .if1 .taken)) (c .none .ensures _ _ _ refl)
 
 returns-2 : tie.Need-returns-2
 unfolding addi4spn
-returns-2 c = rw (imm-addi4spn-is (c .before .before .before .before .before .before .args .instr), ← c .before .before .before .before .before .imm-ciw .ensures, ne-eqb _ _ (c .before .before .before .before .if1 .left)) (record { words = rw (c .go-on .ensures .0, c .before .with-imm .ensures (add-x 11 9 10) (c .before .before .before .add-x .ensures), c .before .before .low-prime .ensures .0); flow = c .go-on .ensures .1 })
+returns-2 c = rw (imm-addi4spn-is (c .before .before .before .before .before .before .args .instr), ← c .before .before .before .before .before .imm-ciw .ensures, ne-eqb _ _ (c .before .before .before .before .if1 .left)) (c .go-on .ensures _ _ _ (rw (c .before .with-imm .ensures, c .before .before .before .add-x .ensures, c .before .before .low-prime .ensures .0)))
 
 pub emit-addi4spn-spec : {M : Type 1} → statement M
 emit-addi4spn-spec =

@@ -1,6 +1,7 @@
+use mathlib.Core.Path.{refl}
 use borrow.Author.Tests.{eq-eqb, ne-eqb}
 use Rattle.emit_native.specs.Instr16.{c-addi16sp}
-use Rattle.emit_native.specs.Calls.{add-x}
+use Rattle.a64.specs.Writers.{add-x}
 use Rattle.emit_native.proofs.Decoding.{imm-addi16sp-is}
 use borrow.Author.Needs.{needs}
 use Rattle.emit_native.proofs.instr16.emit_c_addi16sp.Statement.{statement}
@@ -8,11 +9,11 @@ use Rattle.emit_native.proofs.instr16.emit_c_addi16sp.Tie as tie
 
 returns : tie.Need-returns
 unfolding c-addi16sp
-returns c = rw (imm-addi16sp-is (c .before .before .before .args .instr), ← c .before .before .imm-ci16 .ensures, eq-eqb _ _ (c .before .if1 .taken)) (record { words = rw (c .none .ensures .0); flow = c .none .ensures .1 })
+returns c = rw (imm-addi16sp-is (c .before .before .before .args .instr), ← c .before .before .imm-ci16 .ensures, eq-eqb _ _ (c .before .if1 .taken)) (c .none .ensures _ _ _ refl)
 
 returns-2 : tie.Need-returns-2
 unfolding c-addi16sp
-returns-2 c = rw (imm-addi16sp-is (c .before .before .before .before .before .args .instr), ← c .before .before .before .before .imm-ci16 .ensures, ne-eqb _ _ (c .before .before .before .if1 .left)) (record { words = rw (c .go-on .ensures .0, c .before .with-imm .ensures (add-x 11 9 10) (c .before .before .add-x .ensures)); flow = c .go-on .ensures .1 })
+returns-2 c = rw (imm-addi16sp-is (c .before .before .before .before .before .args .instr), ← c .before .before .before .before .imm-ci16 .ensures, ne-eqb _ _ (c .before .before .before .if1 .left)) (c .go-on .ensures _ _ _ (rw (c .before .with-imm .ensures, c .before .before .add-x .ensures)))
 
 pub emit-c-addi16sp-spec : {M : Type 1} → statement M
 emit-c-addi16sp-spec =

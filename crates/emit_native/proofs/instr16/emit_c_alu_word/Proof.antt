@@ -1,3 +1,4 @@
+use mathlib.Core.Path.{refl}
 use borrow.Author.Tests.{ne-eqb}
 use Rattle.emit_native.specs.Instr16.{c-alu}
 use borrow.Author.Needs.{needs}
@@ -6,15 +7,15 @@ use Rattle.emit_native.proofs.instr16.emit_c_alu_word.Tie as tie
 
 returns : tie.Need-returns
 unfolding c-alu
-returns c = rw (c .before .before .before .before .before .before .match .keys1) (record { words = rw (c .go-on .ensures .0, c .before .store .ensures, c .before .before .emit2 .ensures, c .before .before .before .sxtw-x .ensures, c .before .before .before .before .emit .ensures, c .before .before .before .before .before .sub-x .ensures); flow = c .go-on .ensures .1 })
+returns c = rw (c .before .before .before .before .before .before .match .keys1) (c .go-on .ensures _ _ _ (rw (c .before .store .ensures, c .before .before .emit2 .ensures, c .before .before .before .sxtw-x .ensures, c .before .before .before .before .emit .ensures, c .before .before .before .before .before .sub-x .ensures)))
 
 returns-2 : tie.Need-returns-2
 unfolding c-alu
-returns-2 c = rw (c .before .before .before .before .before .before .match .keys2) (record { words = rw (c .go-on2 .ensures .0, c .before .store2 .ensures, c .before .before .emit4 .ensures, c .before .before .before .sxtw-x2 .ensures, c .before .before .before .before .emit3 .ensures, c .before .before .before .before .before .add-x .ensures); flow = c .go-on2 .ensures .1 })
+returns-2 c = rw (c .before .before .before .before .before .before .match .keys2) (c .go-on2 .ensures _ _ _ (rw (c .before .store2 .ensures, c .before .before .emit4 .ensures, c .before .before .before .sxtw-x2 .ensures, c .before .before .before .before .emit3 .ensures, c .before .before .before .before .before .add-x .ensures)))
 
 returns-3 : tie.Need-returns-3
 unfolding c-alu
-returns-3 c = rw (ne-eqb _ _ (c .before .match .rest .0 .1), ne-eqb _ _ (c .before .match .rest .1)) (record { words = rw (c .none .ensures .0); flow = c .none .ensures .1 })
+returns-3 c = rw (ne-eqb _ _ (c .before .match .rest .0 .1), ne-eqb _ _ (c .before .match .rest .1)) (c .none .ensures _ _ _ refl)
 
 pub emit-c-alu-word-spec : {M : Type 1} → statement M
 emit-c-alu-word-spec =

@@ -1,5 +1,5 @@
 use Rattle.emit_native.specs.Instr16.{c-andi}
-use Rattle.emit_native.specs.Calls.{and-x}
+use Rattle.a64.specs.Writers.{and-x}
 use Rattle.emit_native.proofs.Decoding.{imm-ci-is}
 use borrow.Author.Needs.{needs}
 use Rattle.emit_native.proofs.instr16.emit_c_andi.Statement.{statement}
@@ -7,7 +7,7 @@ use Rattle.emit_native.proofs.instr16.emit_c_andi.Tie as tie
 
 returns : tie.Need-returns
 unfolding c-andi
-returns c = record { words = rw (c .go-on .ensures .0, c .before .with-imm .ensures (and-x 11 9 10) (c .before .before .before .and-x .ensures), c .before .before .imm-ci .ensures, c .before .before .before .before .high-prime .ensures .0, imm-ci-is (c .before .before .before .before .before .args .instr)); flow = c .go-on .ensures .1 }
+returns c = c .go-on .ensures _ _ _ (rw (c .before .with-imm .ensures, c .before .before .before .and-x .ensures, c .before .before .imm-ci .ensures, c .before .before .before .before .high-prime .ensures .0, imm-ci-is (c .before .before .before .before .before .args .instr)))
 
 pub emit-c-andi-spec : {M : Type 1} → statement M
 emit-c-andi-spec =

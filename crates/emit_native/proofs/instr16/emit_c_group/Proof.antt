@@ -1,5 +1,5 @@
 use borrow.Author.Tests.{ne-eqb}
-use mathlib.Core.Path.{_∙_}
+use mathlib.Core.Path.{_∙_, refl}
 use Rattle.emit_native.specs.Instr16.{c-group}
 use borrow.Author.Needs.{needs}
 use Rattle.emit_native.proofs.instr16.emit_c_group.Statement.{statement}
@@ -23,7 +23,7 @@ returns-4 c = rw (c .before .before .before .before .match .keys4) (record { wor
 
 returns-5 : tie.Need-returns-5
 unfolding c-group
-returns-5 c = rw (ne-eqb _ _ (c .before .match .rest .0 .0 .0 .1), ne-eqb _ _ (c .before .match .rest .0 .0 .1), ne-eqb _ _ (c .before .match .rest .0 .1), ne-eqb _ _ (c .before .match .rest .1)) (record { words = rw (c .none .ensures .0); flow = c .none .ensures .1 })
+returns-5 c = rw (ne-eqb _ _ (c .before .match .rest .0 .0 .0 .1), ne-eqb _ _ (c .before .match .rest .0 .0 .1), ne-eqb _ _ (c .before .match .rest .0 .1), ne-eqb _ _ (c .before .match .rest .1)) (c .none .ensures _ _ _ refl)
 
 pub emit-c-group-spec : {M : Type 1} → statement M
 emit-c-group-spec =

@@ -6,7 +6,7 @@ use Rattle.emit_native.proofs.instr16.emit_c_j.Tie as tie
 
 returns : tie.Need-returns
 unfolding c-j
-returns c = record { words = rw (c .terminate .ensures .0, c .before .mov-imm64 .ensures, c .before .before .wrapping-add-u64 .ensures, c .before .before .before .imm-cj .ensures, imm-cj-is (c .before .before .before .before .args .instr)); flow = c .terminate .ensures .1 }
+returns c = c .terminate .ensures _ _ _ (rw (c .before .mov-imm64 .ensures, c .before .before .wrapping-add-u64 .ensures, c .before .before .before .imm-cj .ensures, imm-cj-is (c .before .before .before .before .args .instr)))
 
 pub emit-c-j-spec : {M : Type 1} → statement M
 emit-c-j-spec =

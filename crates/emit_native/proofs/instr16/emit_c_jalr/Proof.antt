@@ -5,7 +5,7 @@ use Rattle.emit_native.proofs.instr16.emit_c_jalr.Tie as tie
 
 returns : tie.Need-returns
 unfolding c-jalr
-returns c = record { words = rw (c .terminate .ensures .0, c .before .emit2 .ensures, c .before .before .orr-x .ensures, c .before .before .before .store .ensures, c .before .before .before .before .mov-imm642 .ensures, c .before .before .before .before .before .wrapping-add-u64 .ensures, c .before .before .before .before .before .before .emit .ensures, c .before .before .before .before .before .before .before .and-x .ensures, c .before .before .before .before .before .before .before .before .mov-imm64 .ensures, c .before .before .before .before .before .before .before .before .before .load .ensures); flow = c .terminate .ensures .1 }
+returns c = c .terminate .ensures _ _ _ (rw (c .before .emit2 .ensures, c .before .before .orr-x .ensures, c .before .before .before .store .ensures, c .before .before .before .before .mov-imm642 .ensures, c .before .before .before .before .before .wrapping-add-u64 .ensures, c .before .before .before .before .before .before .emit .ensures, c .before .before .before .before .before .before .before .and-x .ensures, c .before .before .before .before .before .before .before .before .mov-imm64 .ensures, c .before .before .before .before .before .before .before .before .before .load .ensures))
 
 pub emit-c-jalr-spec : {M : Type 1} → statement M
 emit-c-jalr-spec =

@@ -1,3 +1,4 @@
+use mathlib.Core.Path.{refl}
 use borrow.Author.Tests.{eq-eqb, ne-eqb}
 use Rattle.emit_native.specs.Instr16.{c-ebreak, c-jump-move-add}
 use borrow.Author.Needs.{needs}
@@ -14,11 +15,11 @@ returns-2 c = rw (← c .before .before .before .before .rd-of .ensures .0, ← 
 
 returns-3 : tie.Need-returns-3
 unfolding c-jump-move-add c-ebreak
-returns-3 c = rw (← c .before .before .before .before .before .before .rd-of .ensures .0, ← c .before .before .before .before .before .rs2-of .ensures .0, ne-eqb _ _ (c .before .before .before .before .if1 .left), eq-eqb _ _ (c .before .before .before .if3 .taken), eq-eqb _ _ (c .before .before .if4 .taken), c .before .if5 .taken) (record { words = rw (c .go-on .ensures .0); flow = c .go-on .ensures .1 })
+returns-3 c = rw (← c .before .before .before .before .before .before .rd-of .ensures .0, ← c .before .before .before .before .before .rs2-of .ensures .0, ne-eqb _ _ (c .before .before .before .before .if1 .left), eq-eqb _ _ (c .before .before .before .if3 .taken), eq-eqb _ _ (c .before .before .if4 .taken), c .before .if5 .taken) (c .go-on .ensures _ _ _ refl)
 
 returns-4 : tie.Need-returns-4
 unfolding c-jump-move-add c-ebreak
-returns-4 c = rw (← c .before .before .before .before .before .before .rd-of .ensures .0, ← c .before .before .before .before .before .rs2-of .ensures .0, ne-eqb _ _ (c .before .before .before .before .if1 .left), eq-eqb _ _ (c .before .before .before .if3 .taken), eq-eqb _ _ (c .before .before .if4 .taken), c .before .if5 .left) (record { words = rw (c .none .ensures .0); flow = c .none .ensures .1 })
+returns-4 c = rw (← c .before .before .before .before .before .before .rd-of .ensures .0, ← c .before .before .before .before .before .rs2-of .ensures .0, ne-eqb _ _ (c .before .before .before .before .if1 .left), eq-eqb _ _ (c .before .before .before .if3 .taken), eq-eqb _ _ (c .before .before .if4 .taken), c .before .if5 .left) (c .none .ensures _ _ _ refl)
 
 returns-5 : tie.Need-returns-5
 unfolding c-jump-move-add c-ebreak

@@ -6,7 +6,7 @@ use Rattle.emit_native.proofs.instr16.emit_c_li.Tie as tie
 
 returns : tie.Need-returns
 unfolding c-li
-returns c = record { words = rw (c .go-on .ensures .0, c .before .mov-reg .ensures, c .before .before .imm-ci .ensures, c .before .before .before .rd-of .ensures .0, imm-ci-is (c .before .before .before .before .args .instr)); flow = c .go-on .ensures .1 }
+returns c = c .go-on .ensures _ _ _ (rw (c .before .mov-reg .ensures, c .before .before .imm-ci .ensures, c .before .before .before .rd-of .ensures .0, imm-ci-is (c .before .before .before .before .args .instr)))
 
 pub emit-c-li-spec : {M : Type 1} → statement M
 emit-c-li-spec =

@@ -1,3 +1,4 @@
+use mathlib.Core.Path.{refl}
 use borrow.Author.Tests.{eq-eqb, ne-eqb}
 use Rattle.emit_native.specs.Instr16.{c-mv}
 use borrow.Author.Needs.{needs}
@@ -6,11 +7,11 @@ use Rattle.emit_native.proofs.instr16.emit_c_mv.Tie as tie
 
 returns : tie.Need-returns
 unfolding c-mv
-returns c = rw (eq-eqb _ _ (c .before .if1 .taken)) (record { words = rw (c .none .ensures .0); flow = c .none .ensures .1 })
+returns c = rw (eq-eqb _ _ (c .before .if1 .taken)) (c .none .ensures _ _ _ refl)
 
 returns-2 : tie.Need-returns-2
 unfolding c-mv
-returns-2 c = rw (ne-eqb _ _ (c .before .before .before .if1 .left)) (record { words = rw (c .go-on .ensures .0, c .before .store .ensures, c .before .before .load .ensures); flow = c .go-on .ensures .1 })
+returns-2 c = rw (ne-eqb _ _ (c .before .before .before .if1 .left)) (c .go-on .ensures _ _ _ (rw (c .before .store .ensures, c .before .before .load .ensures)))
 
 pub emit-c-mv-spec : {M : Type 1} → statement M
 emit-c-mv-spec =

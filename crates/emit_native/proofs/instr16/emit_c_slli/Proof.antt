@@ -1,6 +1,7 @@
+use mathlib.Core.Path.{refl}
 use borrow.Author.Tests.{eq-eqb, ne-eqb}
 use Rattle.emit_native.specs.Instr16.{c-slli}
-use Rattle.emit_native.specs.Calls.{lslv-x}
+use Rattle.a64.specs.Writers.{lslv-x}
 use Rattle.emit_native.proofs.Decoding.{shamt-is}
 use borrow.Author.Needs.{needs}
 use Rattle.emit_native.proofs.instr16.emit_c_slli.Statement.{statement}
@@ -8,11 +9,11 @@ use Rattle.emit_native.proofs.instr16.emit_c_slli.Tie as tie
 
 returns : tie.Need-returns
 unfolding c-slli
-returns c = rw (← c .before .before .rd-of .ensures .0, eq-eqb _ _ (c .before .if1 .taken)) (record { words = rw (c .none .ensures .0); flow = c .none .ensures .1 })
+returns c = rw (← c .before .before .rd-of .ensures .0, eq-eqb _ _ (c .before .if1 .taken)) (c .none .ensures _ _ _ refl)
 
 returns-2 : tie.Need-returns-2
 unfolding c-slli
-returns-2 c = rw (← c .before .before .before .before .before .rd-of .ensures .0, ne-eqb _ _ (c .before .before .before .before .if1 .left)) (record { words = rw (c .go-on .ensures .0, c .before .with-imm .ensures (lslv-x 11 9 10) (c .before .before .before .lslv-x .ensures), c .before .before .shamt-c .ensures, shamt-is (c .before .before .before .before .before .before .args .instr)); flow = c .go-on .ensures .1 })
+returns-2 c = rw (← c .before .before .before .before .before .rd-of .ensures .0, ne-eqb _ _ (c .before .before .before .before .if1 .left)) (c .go-on .ensures _ _ _ (rw (c .before .with-imm .ensures, c .before .before .before .lslv-x .ensures, c .before .before .shamt-c .ensures, shamt-is (c .before .before .before .before .before .before .args .instr))))
 
 pub emit-c-slli-spec : {M : Type 1} → statement M
 emit-c-slli-spec =

@@ -1,5 +1,5 @@
 use Rattle.emit_native.specs.Instr16.{c-srai}
-use Rattle.emit_native.specs.Calls.{asrv-x}
+use Rattle.a64.specs.Writers.{asrv-x}
 use Rattle.emit_native.proofs.Decoding.{shamt-is}
 use borrow.Author.Needs.{needs}
 use Rattle.emit_native.proofs.instr16.emit_c_srai.Statement.{statement}
@@ -7,7 +7,7 @@ use Rattle.emit_native.proofs.instr16.emit_c_srai.Tie as tie
 
 returns : tie.Need-returns
 unfolding c-srai
-returns c = record { words = rw (c .go-on .ensures .0, c .before .with-imm .ensures (asrv-x 11 9 10) (c .before .before .before .asrv-x .ensures), c .before .before .shamt-c .ensures, c .before .before .before .before .high-prime .ensures .0, shamt-is (c .before .before .before .before .before .args .instr)); flow = c .go-on .ensures .1 }
+returns c = c .go-on .ensures _ _ _ (rw (c .before .with-imm .ensures, c .before .before .before .asrv-x .ensures, c .before .before .shamt-c .ensures, c .before .before .before .before .high-prime .ensures .0, shamt-is (c .before .before .before .before .before .args .instr)))
 
 pub emit-c-srai-spec : {M : Type 1} → statement M
 emit-c-srai-spec =

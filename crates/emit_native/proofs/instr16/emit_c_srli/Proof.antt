@@ -1,5 +1,5 @@
 use Rattle.emit_native.specs.Instr16.{c-srli}
-use Rattle.emit_native.specs.Calls.{lsrv-x}
+use Rattle.a64.specs.Writers.{lsrv-x}
 use Rattle.emit_native.proofs.Decoding.{shamt-is}
 use borrow.Author.Needs.{needs}
 use Rattle.emit_native.proofs.instr16.emit_c_srli.Statement.{statement}
@@ -7,7 +7,7 @@ use Rattle.emit_native.proofs.instr16.emit_c_srli.Tie as tie
 
 returns : tie.Need-returns
 unfolding c-srli
-returns c = record { words = rw (c .go-on .ensures .0, c .before .with-imm .ensures (lsrv-x 11 9 10) (c .before .before .before .lsrv-x .ensures), c .before .before .shamt-c .ensures, c .before .before .before .before .high-prime .ensures .0, shamt-is (c .before .before .before .before .before .args .instr)); flow = c .go-on .ensures .1 }
+returns c = c .go-on .ensures _ _ _ (rw (c .before .with-imm .ensures, c .before .before .before .lsrv-x .ensures, c .before .before .shamt-c .ensures, c .before .before .before .before .high-prime .ensures .0, shamt-is (c .before .before .before .before .before .args .instr)))
 
 pub emit-c-srli-spec : {M : Type 1} → statement M
 emit-c-srli-spec =

@@ -1,3 +1,4 @@
+use mathlib.Core.Path.{refl}
 use borrow.Author.Tests.{ne-eqb}
 use Rattle.emit_native.specs.Instr16.{emit-native-instr16}
 use borrow.Author.Needs.{needs}
@@ -18,7 +19,7 @@ returns-3 c = rw (c .before .match .keys3) (c .emit-quadrant-2 .ensures)
 
 returns-4 : tie.Need-returns-4
 unfolding emit-native-instr16
-returns-4 c = rw (ne-eqb _ _ (c .before .match .rest .0 .0 .1), ne-eqb _ _ (c .before .match .rest .0 .1), ne-eqb _ _ (c .before .match .rest .1)) (record { words = rw (c .none .ensures .0); flow = c .none .ensures .1 })
+returns-4 c = rw (ne-eqb _ _ (c .before .match .rest .0 .0 .1), ne-eqb _ _ (c .before .match .rest .0 .1), ne-eqb _ _ (c .before .match .rest .1)) (c .none .ensures _ _ _ refl)
 
 pub emit-native-instr16-spec : {M : Type 1} → statement M
 emit-native-instr16-spec =

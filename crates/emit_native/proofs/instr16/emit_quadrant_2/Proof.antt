@@ -1,3 +1,4 @@
+use mathlib.Core.Path.{refl}
 use borrow.Author.Tests.{ne-eqb}
 use Rattle.emit_native.specs.Instr16.{quadrant-2}
 use borrow.Author.Needs.{needs}
@@ -14,7 +15,7 @@ returns-2 c = rw (c .before .match .keys2) (c .emit-c-jump-move-add .ensures)
 
 returns-3 : tie.Need-returns-3
 unfolding quadrant-2
-returns-3 c = rw (ne-eqb _ _ (c .before .match .rest .0 .1), ne-eqb _ _ (c .before .match .rest .1)) (record { words = rw (c .none .ensures .0); flow = c .none .ensures .1 })
+returns-3 c = rw (ne-eqb _ _ (c .before .match .rest .0 .1), ne-eqb _ _ (c .before .match .rest .1)) (c .none .ensures _ _ _ refl)
 
 pub emit-quadrant-2-spec : {M : Type 1} → statement M
 emit-quadrant-2-spec =

@@ -6,7 +6,7 @@ use Rattle.emit_native.proofs.instr32.emit_auipc.Tie as tie
 
 returns : tie.Need-returns
 unfolding auipc
-returns c = record { words = rw (c .go-on .ensures .0, c .before .mov-reg .ensures, c .before .before .wrapping-add-u64 .ensures, c .before .before .before .imm-u .ensures, imm-u-is (c .before .before .before .before .args .instr) (c .before .before .before .before .fits .instr .fits)); flow = c .go-on .ensures .1 }
+returns c = c .go-on .ensures _ _ _ (rw (c .before .mov-reg .ensures, c .before .before .wrapping-add-u64 .ensures, c .before .before .before .imm-u .ensures, imm-u-is (c .before .before .before .before .args .instr) (c .before .before .before .before .fits .instr .fits)))
 
 pub emit-auipc-spec : {M : Type 1} → statement M
 emit-auipc-spec =

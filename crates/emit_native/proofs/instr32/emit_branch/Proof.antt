@@ -1,3 +1,4 @@
+use mathlib.Core.Path.{refl}
 use borrow.Author.Tests.{ne-eqb}
 use Rattle.emit_native.specs.Instr32.{branch}
 use borrow.Author.Needs.{needs}
@@ -30,7 +31,7 @@ returns-6 c = rw (c .before .match .keys6) (c .emit-branch-on6 .ensures)
 
 returns-7 : tie.Need-returns-7
 unfolding branch
-returns-7 c = rw (ne-eqb _ _ (c .before .match .rest .0 .0 .0 .0 .0 .1), ne-eqb _ _ (c .before .match .rest .0 .0 .0 .0 .1), ne-eqb _ _ (c .before .match .rest .0 .0 .0 .1), ne-eqb _ _ (c .before .match .rest .0 .0 .1), ne-eqb _ _ (c .before .match .rest .0 .1), ne-eqb _ _ (c .before .match .rest .1)) (record { words = rw (c .none .ensures .0); flow = c .none .ensures .1 })
+returns-7 c = rw (ne-eqb _ _ (c .before .match .rest .0 .0 .0 .0 .0 .1), ne-eqb _ _ (c .before .match .rest .0 .0 .0 .0 .1), ne-eqb _ _ (c .before .match .rest .0 .0 .0 .1), ne-eqb _ _ (c .before .match .rest .0 .0 .1), ne-eqb _ _ (c .before .match .rest .0 .1), ne-eqb _ _ (c .before .match .rest .1)) (c .none .ensures _ _ _ refl)
 
 pub emit-branch-spec : {M : Type 1} → statement M
 emit-branch-spec =

@@ -6,7 +6,7 @@ use Rattle.emit_native.proofs.instr32.emit_branch_on.Tie as tie
 
 returns : tie.Need-returns
 unfolding branch-on
-returns c = record { words = rw (c .terminate .ensures .0, c .before .emit2 .ensures, c .before .before .csel-x .ensures, c .before .before .before .mov-imm642 .ensures, c .before .before .before .before .wrapping-add-u642 .ensures, c .before .before .before .before .before .mov-imm64 .ensures, c .before .before .before .before .before .before .wrapping-add-u64 .ensures, c .before .before .before .before .before .before .before .imm-b .ensures, c .before .before .before .before .before .before .before .before .emit .ensures, c .before .before .before .before .before .before .before .before .before .cmp-x .ensures, c .before .before .before .before .before .before .before .before .before .before .load-both .ensures, imm-b-is (c .before .before .before .before .before .before .before .before .before .before .before .args .instr) (c .before .before .before .before .before .before .before .before .before .before .before .fits .instr .fits)); flow = c .terminate .ensures .1 }
+returns c = c .terminate .ensures _ _ _ (rw (c .before .emit2 .ensures, c .before .before .csel-x .ensures, c .before .before .before .mov-imm642 .ensures, c .before .before .before .before .wrapping-add-u642 .ensures, c .before .before .before .before .before .mov-imm64 .ensures, c .before .before .before .before .before .before .wrapping-add-u64 .ensures, c .before .before .before .before .before .before .before .imm-b .ensures, c .before .before .before .before .before .before .before .before .emit .ensures, c .before .before .before .before .before .before .before .before .before .cmp-x .ensures, c .before .before .before .before .before .before .before .before .before .before .load-both .ensures, imm-b-is (c .before .before .before .before .before .before .before .before .before .before .before .args .instr) (c .before .before .before .before .before .before .before .before .before .before .before .fits .instr .fits)))
 
 pub emit-branch-on-spec : {M : Type 1} → statement M
 emit-branch-on-spec =

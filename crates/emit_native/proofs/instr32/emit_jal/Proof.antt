@@ -8,7 +8,7 @@ use Rattle.emit_native.proofs.instr32.emit_jal.Tie as tie
 
 returns : tie.Need-returns
 unfolding jal
-returns c = record { words = rw (c .terminate .ensures .0, c .before .mov-imm64 .ensures, c .before .before .wrapping-add-u642 .ensures, c .before .before .before .imm-j .ensures, c .before .before .before .before .mov-reg .ensures, c .before .before .before .before .before .wrapping-add-u64 .ensures, imm-j-is (c .before .before .before .before .before .before .args .instr) (c .before .before .before .before .before .before .fits .instr .fits), map-append, emitted-all-append); flow = c .terminate .ensures .1 }
+returns c = c .terminate .ensures _ _ _ (rw (c .before .mov-imm64 .ensures, c .before .before .wrapping-add-u642 .ensures, c .before .before .before .imm-j .ensures, c .before .before .before .before .mov-reg .ensures, c .before .before .before .before .before .wrapping-add-u64 .ensures, imm-j-is (c .before .before .before .before .before .before .args .instr) (c .before .before .before .before .before .before .fits .instr .fits), map-append, emitted-all-append))
 
 pub emit-jal-spec : {M : Type 1} → statement M
 emit-jal-spec =

@@ -1,3 +1,4 @@
+use mathlib.Core.Path.{refl}
 use borrow.Author.Tests.{ne-eqb}
 use Rattle.emit_native.specs.Instr32.{misc-mem}
 use borrow.Author.Needs.{needs}
@@ -6,15 +7,15 @@ use Rattle.emit_native.proofs.instr32.emit_misc_mem.Tie as tie
 
 returns : tie.Need-returns
 unfolding misc-mem
-returns c = rw (c .before .match .keys1) (record { words = rw (c .go-on .ensures .0); flow = c .go-on .ensures .1 })
+returns c = rw (c .before .match .keys1) (c .go-on .ensures _ _ _ refl)
 
 returns-2 : tie.Need-returns-2
 unfolding misc-mem
-returns-2 c = rw (c .before .match .keys2) (record { words = rw (c .go-on2 .ensures .0); flow = c .go-on2 .ensures .1 })
+returns-2 c = rw (c .before .match .keys2) (c .go-on2 .ensures _ _ _ refl)
 
 returns-3 : tie.Need-returns-3
 unfolding misc-mem
-returns-3 c = rw (ne-eqb _ _ (c .before .match .rest .0 .1), ne-eqb _ _ (c .before .match .rest .1)) (record { words = rw (c .none .ensures .0); flow = c .none .ensures .1 })
+returns-3 c = rw (ne-eqb _ _ (c .before .match .rest .0 .1), ne-eqb _ _ (c .before .match .rest .1)) (c .none .ensures _ _ _ refl)
 
 pub emit-misc-mem-spec : {M : Type 1} → statement M
 emit-misc-mem-spec =

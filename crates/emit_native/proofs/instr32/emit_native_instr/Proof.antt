@@ -1,3 +1,4 @@
+use mathlib.Core.Path.{refl}
 use Rattle.emit_native.proofs.Dispatch.{in-class, in-range}
 use borrow.Author.Needs.{needs}
 use Rattle.emit_native.proofs.instr32.emit_native_instr.Statement.{statement}
@@ -61,25 +62,25 @@ returns-10 : tie.Need-returns-10
 returns-10 c = rw (in-class (c .before .before .before .before .args .pc) (c .before .before .before .before .args .instr) (c .before .before .before .before .args .d) _ (c .before .before .before .before .pre .1) (c .before .before .before .opcode-class .ensures), c .before .enum-told10 .given .1) (c .emit-misc-mem .ensures)
 
 returns-11 : tie.Need-returns-11
-returns-11 c = rw (in-class (c .before .before .before .before .args .pc) (c .before .before .before .before .args .instr) (c .before .before .before .before .args .d) _ (c .before .before .before .before .pre .1) (c .before .before .before .opcode-class .ensures), c .before .enum-told11 .given .1) (record { words = rw (c .none .ensures .0); flow = c .none .ensures .1 })
+returns-11 c = rw (in-class (c .before .before .before .before .args .pc) (c .before .before .before .before .args .instr) (c .before .before .before .before .args .d) _ (c .before .before .before .before .pre .1) (c .before .before .before .opcode-class .ensures), c .before .enum-told11 .given .1) (c .none .ensures _ _ _ refl)
 
 returns-12 : tie.Need-returns-12
-returns-12 c = rw (in-class (c .before .before .before .before .args .pc) (c .before .before .before .before .args .instr) (c .before .before .before .before .args .d) _ (c .before .before .before .before .pre .1) (c .before .before .before .opcode-class .ensures), c .before .enum-told12 .given .1) (record { words = rw (c .none2 .ensures .0); flow = c .none2 .ensures .1 })
+returns-12 c = rw (in-class (c .before .before .before .before .args .pc) (c .before .before .before .before .args .instr) (c .before .before .before .before .args .d) _ (c .before .before .before .before .pre .1) (c .before .before .before .opcode-class .ensures), c .before .enum-told12 .given .1) (c .none2 .ensures _ _ _ refl)
 
 returns-13 : tie.Need-returns-13
-returns-13 c = rw (in-class (c .before .before .before .before .args .pc) (c .before .before .before .before .args .instr) (c .before .before .before .before .args .d) _ (c .before .before .before .before .pre .1) (c .before .before .before .opcode-class .ensures), c .before .enum-told13 .given .1) (record { words = rw (c .none3 .ensures .0); flow = c .none3 .ensures .1 })
+returns-13 c = rw (in-class (c .before .before .before .before .args .pc) (c .before .before .before .before .args .instr) (c .before .before .before .before .args .d) _ (c .before .before .before .before .pre .1) (c .before .before .before .opcode-class .ensures), c .before .enum-told13 .given .1) (c .none3 .ensures _ _ _ refl)
 
 returns-14 : tie.Need-returns-14
-returns-14 c = rw (in-class (c .before .before .before .before .args .pc) (c .before .before .before .before .args .instr) (c .before .before .before .before .args .d) _ (c .before .before .before .before .pre .1) (c .before .before .before .opcode-class .ensures), c .before .enum-told14 .given .1) (record { words = rw (c .none4 .ensures .0); flow = c .none4 .ensures .1 })
+returns-14 c = rw (in-class (c .before .before .before .before .args .pc) (c .before .before .before .before .args .instr) (c .before .before .before .before .args .d) _ (c .before .before .before .before .pre .1) (c .before .before .before .opcode-class .ensures), c .before .enum-told14 .given .1) (c .none4 .ensures _ _ _ refl)
 
 returns-15 : tie.Need-returns-15
-returns-15 c = rw (in-class (c .before .before .before .before .args .pc) (c .before .before .before .before .args .instr) (c .before .before .before .before .args .d) _ (c .before .before .before .before .pre .1) (c .before .before .before .opcode-class .ensures), c .before .enum-told15 .given .1) (record { words = rw (c .none5 .ensures .0); flow = c .none5 .ensures .1 })
+returns-15 c = rw (in-class (c .before .before .before .before .args .pc) (c .before .before .before .before .args .instr) (c .before .before .before .before .args .d) _ (c .before .before .before .before .pre .1) (c .before .before .before .opcode-class .ensures), c .before .enum-told15 .given .1) (c .none5 .ensures _ _ _ refl)
 
 returns-16 : tie.Need-returns-16
-returns-16 c = rw (in-class (c .before .before .before .before .args .pc) (c .before .before .before .before .args .instr) (c .before .before .before .before .args .d) _ (c .before .before .before .before .pre .1) (c .before .before .before .opcode-class .ensures), c .before .enum-told16 .given .1) (record { words = rw (c .none6 .ensures .0); flow = c .none6 .ensures .1 })
+returns-16 c = rw (in-class (c .before .before .before .before .args .pc) (c .before .before .before .before .args .instr) (c .before .before .before .before .args .d) _ (c .before .before .before .before .pre .1) (c .before .before .before .opcode-class .ensures), c .before .enum-told16 .given .1) (c .none6 .ensures _ _ _ refl)
 
 returns-17 : tie.Need-returns-17
-returns-17 c = rw (in-class (c .before .before .before .before .args .pc) (c .before .before .before .before .args .instr) (c .before .before .before .before .args .d) _ (c .before .before .before .before .pre .1) (c .before .before .before .opcode-class .ensures), c .before .enum-told17 .given .1) (record { words = rw (c .none7 .ensures .0); flow = c .none7 .ensures .1 })
+returns-17 c = rw (in-class (c .before .before .before .before .args .pc) (c .before .before .before .before .args .instr) (c .before .before .before .before .args .d) _ (c .before .before .before .before .pre .1) (c .before .before .before .opcode-class .ensures), c .before .enum-told17 .given .1) (c .none7 .ensures _ _ _ refl)
 
 pub emit-native-instr-spec : {M : Type 1} → statement M
 emit-native-instr-spec =

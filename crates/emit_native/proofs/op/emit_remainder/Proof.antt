@@ -3,7 +3,7 @@ use Rattle.emit_native.proofs.op.emit_remainder.Statement.{statement}
 use Rattle.emit_native.proofs.op.emit_remainder.Tie as tie
 
 returns : tie.Need-returns
-returns c = λ f e. rw (c .emit5 .ensures, c .before .csel-x .ensures, c .before .before .emit4 .ensures, c .before .before .before .cmp-x .ensures, c .before .before .before .before .mov-imm64 .ensures, c .before .before .before .before .before .emit3 .ensures, c .before .before .before .before .before .before .sub-x .ensures, c .before .before .before .before .before .before .before .emit2 .ensures, c .before .before .before .before .before .before .before .before .mul-x .ensures, c .before .before .before .before .before .before .before .before .before .emit .ensures, e)
+returns c = rw (c .emit5 .ensures, c .before .csel-x .ensures, c .before .before .emit4 .ensures, c .before .before .before .cmp-x .ensures, c .before .before .before .before .mov-imm64 .ensures, c .before .before .before .before .before .emit3 .ensures, c .before .before .before .before .before .before .sub-x .ensures, c .before .before .before .before .before .before .before .emit2 .ensures, c .before .before .before .before .before .before .before .before .mul-x .ensures, c .before .before .before .before .before .before .before .before .before .emit .ensures)
 
 pub emit-remainder-spec : {M : Type 1} → statement M
 emit-remainder-spec =

@@ -1,3 +1,4 @@
+use mathlib.Core.Path.{refl}
 use borrow.Author.Tests.{ne-eqb}
 use Rattle.emit_native.specs.Instr32.{op-32-arm}
 use borrow.Author.Needs.{needs}
@@ -6,19 +7,19 @@ use Rattle.emit_native.proofs.op_32.emit_op_32_arm.Tie as tie
 
 returns : tie.Need-returns
 unfolding op-32-arm
-returns c = λ slots. rw (c .before .match .keys1) (c .emit-op-32-base .ensures slots)
+returns c = λ slot-offset. rw (c .before .match .keys1) (c .emit-op-32-base .ensures slot-offset)
 
 returns-2 : tie.Need-returns-2
 unfolding op-32-arm
-returns-2 c = λ slots. rw (c .before .match .keys2) (c .emit-op-32-sub-sra .ensures slots)
+returns-2 c = λ slot-offset. rw (c .before .match .keys2) (c .emit-op-32-sub-sra .ensures slot-offset)
 
 returns-3 : tie.Need-returns-3
 unfolding op-32-arm
-returns-3 c = λ slots. rw (c .before .match .keys3) (c .emit-op-32-muldiv .ensures slots)
+returns-3 c = λ slot-offset. rw (c .before .match .keys3) (c .emit-op-32-muldiv .ensures slot-offset)
 
 returns-4 : tie.Need-returns-4
 unfolding op-32-arm
-returns-4 c = λ slots. rw (ne-eqb _ _ (c .before .match .rest .0 .0 .1), ne-eqb _ _ (c .before .match .rest .0 .1), ne-eqb _ _ (c .before .match .rest .1)) (record { words = rw (c .none .ensures .0); flow = c .none .ensures .1 })
+returns-4 c = λ slot-offset. rw (ne-eqb _ _ (c .before .match .rest .0 .0 .1), ne-eqb _ _ (c .before .match .rest .0 .1), ne-eqb _ _ (c .before .match .rest .1)) (c .none .ensures _ _ _ refl)
 
 pub emit-op-32-arm-spec : {M : Type 1} → statement M
 emit-op-32-arm-spec =

@@ -1,33 +1,34 @@
+use mathlib.Core.Path.{refl}
 use borrow.Author.Tests.{ne-eqb}
 use Rattle.emit_native.specs.Instr32.{op-32-arm}
-use Rattle.emit_native.specs.Calls.{sdiv-x, udiv-x}
+use Rattle.a64.specs.Writers.{sdiv-x, udiv-x}
 use borrow.Author.Needs.{needs}
 use Rattle.emit_native.proofs.op_32.emit_op_32_muldiv.Statement.{statement}
 use Rattle.emit_native.proofs.op_32.emit_op_32_muldiv.Tie as tie
 
 returns : tie.Need-returns
 unfolding op-32-arm
-returns c = λ slots. rw (c .before .before .before .before .match .keys1) (record { words = rw (c .go-on .ensures .0, c .before .emit-sxtw .ensures, c .before .before .emit .ensures, c .before .before .before .mul-x .ensures); flow = c .go-on .ensures .1 })
+returns c = λ slot-offset. rw (c .before .before .before .before .match .keys1) (c .go-on .ensures _ _ _ (rw (c .before .emit-sxtw .ensures, c .before .before .emit .ensures, c .before .before .before .mul-x .ensures)))
 
 returns-2 : tie.Need-returns-2
 unfolding op-32-arm
-returns-2 c = λ slots. rw (c .before .before .before .before .before .before .match .keys2) (record { words = rw (c .go-on2 .ensures .0, c .before .emit-sxtw2 .ensures, c .before .before .emit-zero-divisor .ensures, c .before .before .before .emit2 .ensures, c .before .before .before .before .sdiv-x .ensures, c .before .before .before .before .before .emit-sign-extended .ensures); flow = c .go-on2 .ensures .1 })
+returns-2 c = λ slot-offset. rw (c .before .before .before .before .before .before .match .keys2) (c .go-on2 .ensures _ _ _ (rw (c .before .emit-sxtw2 .ensures, c .before .before .emit-zero-divisor .ensures, c .before .before .before .emit2 .ensures, c .before .before .before .before .sdiv-x .ensures, c .before .before .before .before .before .emit-sign-extended .ensures)))
 
 returns-3 : tie.Need-returns-3
 unfolding op-32-arm
-returns-3 c = λ slots. rw (c .before .before .before .before .before .before .match .keys3) (record { words = rw (c .go-on3 .ensures .0, c .before .emit-sxtw3 .ensures, c .before .before .emit-zero-divisor2 .ensures, c .before .before .before .emit3 .ensures, c .before .before .before .before .udiv-x .ensures, c .before .before .before .before .before .emit-zero-extended .ensures); flow = c .go-on3 .ensures .1 })
+returns-3 c = λ slot-offset. rw (c .before .before .before .before .before .before .match .keys3) (c .go-on3 .ensures _ _ _ (rw (c .before .emit-sxtw3 .ensures, c .before .before .emit-zero-divisor2 .ensures, c .before .before .before .emit3 .ensures, c .before .before .before .before .udiv-x .ensures, c .before .before .before .before .before .emit-zero-extended .ensures)))
 
 returns-4 : tie.Need-returns-4
 unfolding op-32-arm
-returns-4 c = λ slots. rw (c .before .before .before .before .before .match .keys4) (record { words = rw (c .go-on4 .ensures .0, c .before .emit-sxtw4 .ensures, c .before .before .emit-remainder .ensures (sdiv-x 12 9 10) (c .before .before .before .sdiv-x2 .ensures), c .before .before .before .before .emit-sign-extended2 .ensures); flow = c .go-on4 .ensures .1 })
+returns-4 c = λ slot-offset. rw (c .before .before .before .before .before .match .keys4) (c .go-on4 .ensures _ _ _ (rw (c .before .emit-sxtw4 .ensures, c .before .before .emit-remainder .ensures, c .before .before .before .sdiv-x2 .ensures, c .before .before .before .before .emit-sign-extended2 .ensures)))
 
 returns-5 : tie.Need-returns-5
 unfolding op-32-arm
-returns-5 c = λ slots. rw (c .before .before .before .before .before .match .keys5) (record { words = rw (c .go-on5 .ensures .0, c .before .emit-sxtw5 .ensures, c .before .before .emit-remainder2 .ensures (udiv-x 13 9 10) (c .before .before .before .udiv-x2 .ensures), c .before .before .before .before .emit-zero-extended2 .ensures); flow = c .go-on5 .ensures .1 })
+returns-5 c = λ slot-offset. rw (c .before .before .before .before .before .match .keys5) (c .go-on5 .ensures _ _ _ (rw (c .before .emit-sxtw5 .ensures, c .before .before .emit-remainder2 .ensures, c .before .before .before .udiv-x2 .ensures, c .before .before .before .before .emit-zero-extended2 .ensures)))
 
 returns-6 : tie.Need-returns-6
 unfolding op-32-arm
-returns-6 c = λ slots. rw (ne-eqb _ _ (c .before .match .rest .0 .0 .0 .0 .1), ne-eqb _ _ (c .before .match .rest .0 .0 .0 .1), ne-eqb _ _ (c .before .match .rest .0 .0 .1), ne-eqb _ _ (c .before .match .rest .0 .1), ne-eqb _ _ (c .before .match .rest .1)) (record { words = rw (c .none .ensures .0); flow = c .none .ensures .1 })
+returns-6 c = λ slot-offset. rw (ne-eqb _ _ (c .before .match .rest .0 .0 .0 .0 .1), ne-eqb _ _ (c .before .match .rest .0 .0 .0 .1), ne-eqb _ _ (c .before .match .rest .0 .0 .1), ne-eqb _ _ (c .before .match .rest .0 .1), ne-eqb _ _ (c .before .match .rest .1)) (c .none .ensures _ _ _ refl)
 
 pub emit-op-32-muldiv-spec : {M : Type 1} → statement M
 emit-op-32-muldiv-spec =

@@ -5,7 +5,7 @@ use Rattle.emit_native.proofs.term_helper.emit_call.Statement.{statemen
 use Rattle.emit_native.proofs.term_helper.emit_call.Tie as tie
 
 returns : tie.Need-returns
-returns c = λ slots. rw (c .emit6 .ensures, c .before .ret .ensures, c .before .before .emit-prefix .ensures slots, c .before .before .before .emit5 .ensures, c .before .before .before .before .add-sp-imm .ensures, c .before .before .before .before .before .emit4 .ensures, c .before .before .before .before .before .before .ldr-x .ensures, c .before .before .before .before .before .before .before .emit3 .ensures, c .before .before .before .before .before .before .before .before .blr .ensures, c .before .before .before .before .before .before .before .before .before .emit2 .ensures, c .before .before .before .before .before .before .before .before .before .before .str-x .ensures, c .before .before .before .before .before .before .before .before .before .before .before .emit .ensures, c .before .before .before .before .before .before .before .before .before .before .before .before .sub-sp-imm .ensures, c .before .before .before .before .before .before .before .before .before .before .before .before .before .mov-imm64 .ensures, map-append, emitted-all-append)
+returns c = λ slot-offset. rw (c .emit6 .ensures, c .before .ret .ensures, c .before .before .emit-prefix .ensures slot-offset, c .before .before .before .emit5 .ensures, c .before .before .before .before .add-sp-imm .ensures, c .before .before .before .before .before .emit4 .ensures, c .before .before .before .before .before .before .ldr-x .ensures, c .before .before .before .before .before .before .before .emit3 .ensures, c .before .before .before .before .before .before .before .before .blr .ensures, c .before .before .before .before .before .before .before .before .before .emit2 .ensures, c .before .before .before .before .before .before .before .before .before .before .str-x .ensures, c .before .before .before .before .before .before .before .before .before .before .before .emit .ensures, c .before .before .before .before .before .before .before .before .before .before .before .before .sub-sp-imm .ensures, c .before .before .before .before .before .before .before .before .before .before .before .before .before .mov-imm64 .ensures, map-append, emitted-all-append)
 
 pub emit-call-spec : {M : Type 1} → statement M
 emit-call-spec =

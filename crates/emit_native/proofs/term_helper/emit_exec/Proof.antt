@@ -3,7 +3,7 @@ use Rattle.emit_native.proofs.term_helper.emit_exec.Statement.{statemen
 use Rattle.emit_native.proofs.term_helper.emit_exec.Tie as tie
 
 returns : tie.Need-returns
-returns c = λ slots. record { words = rw (c .terminate .ensures .0, c .before .emit-call .ensures slots, c .before .before .mov-imm642 .ensures, c .before .before .before .mov-imm64 .ensures, c .before .before .before .before .emit2 .ensures, c .before .before .before .before .before .mov-x2 .ensures, c .before .before .before .before .before .before .emit .ensures, c .before .before .before .before .before .before .before .mov-x .ensures, c .before .before .before .before .before .before .before .before .emit-pointers .ensures); flow = c .terminate .ensures .1 }
+returns c = λ slot-offset. c .terminate .ensures _ _ _ (rw (c .before .emit-call .ensures slot-offset, c .before .before .mov-imm642 .ensures, c .before .before .before .mov-imm64 .ensures, c .before .before .before .before .emit2 .ensures, c .before .before .before .before .before .mov-x2 .ensures, c .before .before .before .before .before .before .emit .ensures, c .before .before .before .before .before .before .before .mov-x .ensures, c .before .before .before .before .before .before .before .before .emit-pointers .ensures))
 
 pub emit-exec-spec : {M : Type 1} → statement M
 emit-exec-spec =

@@ -4,7 +4,7 @@ use Rattle.emit_native.proofs.term_helper.emit_load.Statement.{statemen
 use Rattle.emit_native.proofs.term_helper.emit_load.Tie as tie
 
 returns : tie.Need-returns
-returns c = record { words = rw (c .terminate .ensures .0, c .before .emit-call .ensures (c .before .before .before .before .before .before .before .before .before .before .before .before .before .before .before .args .host .slots), c .before .before .mov-imm645 .ensures, c .before .before .before .emit2 .ensures, c .before .before .before .before .mov-x .ensures, c .before .before .before .before .before .mov-imm644 .ensures, c .before .before .before .before .before .before .mov-imm643 .ensures, c .before .before .before .before .before .before .before .before .mov-imm642 .ensures, c .before .before .before .before .before .before .before .before .before .emit-pointers .ensures, c .before .before .before .before .before .before .before .before .before .before .emit .ensures, c .before .before .before .before .before .before .before .before .before .before .before .add-x .ensures, c .before .before .before .before .before .before .before .before .before .before .before .before .mov-imm64 .ensures, c .before .before .before .before .before .before .before .before .before .before .before .before .before .imm-i .ensures, c .before .before .before .before .before .before .before .before .before .before .before .before .before .before .load .ensures, imm-i-is (c .before .before .before .before .before .before .before .before .before .before .before .before .before .before .before .args .instr) (c .before .before .before .before .before .before .before .before .before .before .before .before .before .before .before .fits .instr .fits)); flow = c .terminate .ensures .1 }
+returns c = c .terminate .ensures _ _ _ (rw (c .before .emit-call .ensures (c .before .before .before .before .before .before .before .before .before .before .before .before .before .before .before .args .host .«slot_offset»), c .before .before .mov-imm645 .ensures, c .before .before .before .emit2 .ensures, c .before .before .before .before .mov-x .ensures, c .before .before .before .before .before .mov-imm644 .ensures, c .before .before .before .before .before .before .mov-imm643 .ensures, c .before .before .before .before .before .before .before .before .mov-imm642 .ensures, c .before .before .before .before .before .before .before .before .before .emit-pointers .ensures, c .before .before .before .before .before .before .before .before .before .before .emit .ensures, c .before .before .before .before .before .before .before .before .before .before .before .add-x .ensures, c .before .before .before .before .before .before .before .before .before .before .before .before .mov-imm64 .ensures, c .before .before .before .before .before .before .before .before .before .before .before .before .before .imm-i .ensures, c .before .before .before .before .before .before .before .before .before .before .before .before .before .before .load .ensures, imm-i-is (c .before .before .before .before .before .before .before .before .before .before .before .before .before .before .before .args .instr) (c .before .before .before .before .before .before .before .before .before .before .before .before .before .before .before .fits .instr .fits)))
 
 pub emit-load-spec : {M : Type 1} → statement M
 emit-load-spec =

@@ -1,3 +1,4 @@
+use mathlib.Core.Path.{refl}
 use Rattle.emit_native.specs.TermHelper.{emit-native-term-helper16}
 use borrow.Author.Needs.{needs}
 use Rattle.emit_native.proofs.term_helper.emit_native_term_helper16.Statement.{statement}
@@ -9,7 +10,7 @@ returns c = (rw (← c .before .before .supports .ensures, c .before .if1 .taken
 
 returns-2 : tie.Need-returns-2
 unfolding emit-native-term-helper16
-returns-2 c = (rw (← c .before .before .supports .ensures, c .before .if1 .left) (record { words = rw (c .none .ensures .0); flow = c .none .ensures .1 }))
+returns-2 c = (rw (← c .before .before .supports .ensures, c .before .if1 .left) (c .none .ensures _ _ _ refl))
 
 pub emit-native-term-helper16-spec : {M : Type 1} → statement M
 emit-native-term-helper16-spec =

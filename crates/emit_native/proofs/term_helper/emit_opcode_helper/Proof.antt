@@ -1,3 +1,4 @@
+use mathlib.Core.Path.{refl}
 use borrow.Author.Tests.{ne-eqb}
 use Rattle.emit_native.specs.TermHelper.{opcode-helper}
 use borrow.Author.Needs.{needs}
@@ -6,7 +7,7 @@ use Rattle.emit_native.proofs.term_helper.emit_opcode_helper.Tie as tie
 
 returns : tie.Need-returns
 unfolding opcode-helper
-returns c = rw (c .before .match .keys1) (record { words = rw (c .none .ensures .0); flow = c .none .ensures .1 })
+returns c = rw (c .before .match .keys1) (c .none .ensures _ _ _ refl)
 
 returns-2 : tie.Need-returns-2
 unfolding opcode-helper
@@ -30,7 +31,7 @@ returns-6 c = rw (c .before .match .keys6) (c .emit-exec3 .ensures _)
 
 returns-7 : tie.Need-returns-7
 unfolding opcode-helper
-returns-7 c = rw (ne-eqb _ _ (c .before .match .rest .0 .0 .0 .0 .0 .1), ne-eqb _ _ (c .before .match .rest .0 .0 .0 .0 .1), ne-eqb _ _ (c .before .match .rest .0 .0 .0 .1), ne-eqb _ _ (c .before .match .rest .0 .0 .1), ne-eqb _ _ (c .before .match .rest .0 .1), ne-eqb _ _ (c .before .match .rest .1)) (record { words = rw (c .none2 .ensures .0); flow = c .none2 .ensures .1 })
+returns-7 c = rw (ne-eqb _ _ (c .before .match .rest .0 .0 .0 .0 .0 .1), ne-eqb _ _ (c .before .match .rest .0 .0 .0 .0 .1), ne-eqb _ _ (c .before .match .rest .0 .0 .0 .1), ne-eqb _ _ (c .before .match .rest .0 .0 .1), ne-eqb _ _ (c .before .match .rest .0 .1), ne-eqb _ _ (c .before .match .rest .1)) (c .none2 .ensures _ _ _ refl)
 
 pub emit-opcode-helper-spec : {M : Type 1} → statement M
 emit-opcode-helper-spec =

@@ -5,10 +5,10 @@ use Rattle.emit_native.proofs.term_helper.emit_prefix.Statement.{statem
 use Rattle.emit_native.proofs.term_helper.emit_prefix.Tie as tie
 
 returns : tie.Need-returns
-returns c = λ slots. rw (eq-eqb _ _ (c .if1 .taken)) refl
+returns c = λ slot-offset. rw (eq-eqb _ _ (c .if1 .taken)) refl
 
 returns-2 : tie.Need-returns-2
-returns-2 c = λ slots. rw (ne-eqb _ _ (c .before .before .before .if1 .left)) rw (c .emit .ensures, c .before .add-x .ensures, c .before .before .mov-imm64 .ensures)
+returns-2 c = λ slot-offset. rw (ne-eqb _ _ (c .before .before .before .if1 .left)) rw (c .emit .ensures, c .before .add-x .ensures, c .before .before .mov-imm64 .ensures)
 
 pub emit-prefix-spec : {M : Type 1} → statement M
 emit-prefix-spec =

@@ -1,0 +1,80 @@
+use native.Mathlib.Omega.{arith}
+use borrow.Author.Needs.{needs}
+use Prim.Native.Nat.{_≤_, _-_, _*_}
+use mathlib.Core.Path.{_≡_, _∙_}
+use mathlib.Core.List.{_++_}
+use lib.ListN.{length, take, drop}
+use Rattle.a64.specs.Emitter.{bytes}
+use Rattle.rules.specs.Limits.{max-words}
+use Rattle.a64.specs.Parts.{block-words}
+use Rattle.a64.proofs.Emission.{length-written, bytes-more, all-written, none-written}
+use Rattle.a64.proofs.emitter.A64Emitter.finish.Statement.{statement}
+use Rattle.a64.proofs.emitter.A64Emitter.finish.Tie as tie
+
+abbrev Inv-loop : tie.InvT-loop
+Inv-loop out₀ self n i₀ out i = (i ≤ n) × (out ≡ bytes (take i (self .words)) ++ drop (4 * i) out₀)
+
+abbrev μ-loop : tie.MeasureT-loop
+μ-loop out₀ self n i₀ out i = n - i
+
+returns : tie.Need-returns Inv-loop μ-loop
+unfolding block-words
+returns c =
+    let a = c .before .before .before .args in
+    rw (c .before .block-count .ensures) (none-written (a .t1 .words) (a .out .now) (a .t1 .len) (search needs) (rw (c .before .block-count .ensures) at (c .if1 .taken)))
+
+write-word-requires : tie.Need-write-word-requires Inv-loop μ-loop
+write-word-requires c κs =
+    let a = c .before .before .before .before .before .before .before .args in
+    let l = c .before .before .before .loop in
+    let k = c .before .before .before .before .before .block-count .ensures in
+    let w : length (a .t1 .words) ≡ max-words = search needs in
+    omega (arith, rw (← l .inv .1) at (length-written (a .t1 .words) (a .out .now) (l .i) (omega arith) (omega arith)))
+
+loop-again : tie.Need-loop-again Inv-loop μ-loop
+loop-again c =
+    let a = c .before .before .before .before .before .before .before .before .before .before .args in
+    let l = c .before .before .before .before .before .before .loop in
+    let k = c .before .before .before .before .before .before .before .before .block-count .ensures in
+    let w : length (a .t1 .words) ≡ max-words = search needs in
+    let e = bytes-more (a .t1 .words) (a .out .now) (l .i) (omega arith) (omega arith) in
+    (search needs, c .before .before .write-word .ensures ∙ rw (l .inv .1) e)
+
+same-length : tie.Need-same-length Inv-loop μ-loop
+same-length c =
+    let a = c .before .before .before .before .before .args in
+    let l = c .before .loop in
+    let k = c .before .before .before .block-count .ensures in
+    let w : length (a .t1 .words) ≡ max-words = search needs in
+    rw (l .inv .1) (length-written (a .t1 .words) (a .out .now) (l .i) (omega arith) (omega arith))
+
+returns-2 : tie.Need-returns-2 Inv-loop μ-loop
+unfolding block-words
+returns-2 c =
+    let a = c .before .before .before .before .before .args in
+    let l = c .before .loop in
+    let k = c .before .before .before .block-count in
+    let e : l .i ≡ k .result = omega arith in
+    rw (k .ensures) (all-written (a .t1 .words) (a .out .now) (a .t1 .len) (search needs) (rw (k .ensures) at (c .before .before .if1 .left)) _ (rw (e, k .ensures) at (l .inv .1)))
+
+pub finish-spec : {M : Type 1} → statement M
+finish-spec =
+    tie.close
+    (tie.spec
+    Inv-loop
+    μ-loop
+    (λ c κs. search needs)
+    (λ c. search needs)
+    (λ c. search needs)
+    returns
+    (λ c. search needs)
+    (λ c. search needs)
+    (λ c. search needs)
+    (λ c. search needs)
+    write-word-requires
+    (λ c. search needs)
+    (λ c. search needs)
+    loop-again
+    (λ c. search needs)
+    same-length
+    returns-2)

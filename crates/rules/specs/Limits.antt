@@ -1,0 +1,28 @@
+-- Limits of a block (document 01), and what follows from them.
+use Prim.Native.Nat.{ℕ, _+_, _-_, _*_}
+
+-- rule 1: the most instructions of a block
+abbrev pub max-instrs : ℕ
+max-instrs = 64
+
+-- the most words of an instruction inline, of one that a helper ends, and of the end of a block
+abbrev pub inline-words : ℕ
+inline-words = 29
+
+abbrev pub helper-words : ℕ
+helper-words = 30
+
+abbrev pub end-words : ℕ
+end-words = 6
+
+-- of any one of them
+abbrev pub instr-words : ℕ
+instr-words = helper-words
+
+-- and of a block
+abbrev pub max-words : ℕ
+max-words = max-instrs * inline-words + end-words
+
+-- refusal 1: the greatest slot offset. Slot 31 is then at the greatest offset of LDR and STR, 4,095 times 8
+abbrev pub max-slot-offset : ℕ
+max-slot-offset = 8 * (4095 - 31)

@@ -1,0 +1,21 @@
+// The numbers of document 01 that its requests move; specs/Limits.antt and specs/Refusals.antt are their definitions.
+pub mod refusals;
+
+// The most instructions of a block (rule 1).
+pub const MAX_INSTRS: u32 = 64;
+
+// The most words of an instruction inline, of one that a helper ends, and of the end of a block.
+pub const INLINE_WORDS: usize = 29;
+
+pub const HELPER_WORDS: usize = 30;
+
+pub const END_WORDS: usize = 6;
+
+// Of any one of them.
+pub const INSTR_WORDS: usize = HELPER_WORDS;
+
+// Of a block.
+pub const MAX_WORDS: usize = MAX_INSTRS as usize * INLINE_WORDS + END_WORDS;
+
+// The greatest slot offset (refusal 1): slot 31 is then at the greatest offset of LDR and STR.
+pub const MAX_SLOT_OFFSET: u64 = 8 * (4095 - 31);

@@ -1,0 +1,22 @@
+// Document 01's refusals, by number.
+pub const SLOT_OFFSET: u32 = 1;
+
+pub const LIMIT_ZERO: u32 = 2;
+
+pub const ODD_PC: u32 = 3;
+
+pub const NOT_FETCHED: u32 = 4;
+
+pub const NOT_COVERED: u32 = 5;
+
+pub const OUTPUT_SHORT: u32 = 6;
+
+pub const USED_EXCEEDS_STORE: u32 = 7;
+
+pub const CODE_EXCEEDS_STORE: u32 = 8;
+
+pub const REGISTER_ZERO: u32 = 9;
+
+pub const BLOCK_LENGTH: u32 = 10;
+
+pub const MEMORY_EXCEEDS_TOP: u32 = 11;
