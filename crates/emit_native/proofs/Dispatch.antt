@@ -11,7 +11,7 @@ use Rattle.isa.specs.declared.classes.Class.the-variants.{Load, LoadFp, MiscMem
 use Rattle.isa.specs.declared.decode.Decoded32.{Decoded32}
 use Rattle.isa.specs.Classes.{class-of}
 use Rattle.emit_native.specs.Calls.{Emission, none}
-use Rattle.emit_native.specs.Decode.{decode32}
+use Rattle.isa.specs.Decode.{decode32}
 use Rattle.emit_native.specs.Instr32.{lui, auipc, jal, jalr, branch, op-imm, op-imm-32, op-32, op, misc-mem, emit-native-instr}
 use Rattle.emit_native.specs.Parts.{InRange}
 

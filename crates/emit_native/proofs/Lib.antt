@@ -1,4 +1,3 @@
 pub mod Chains
-pub mod Decoding
 pub mod Dispatch
 pub mod Size

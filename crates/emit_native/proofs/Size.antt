@@ -13,8 +13,9 @@ use Rattle.emit_native.specs.declared.EmitFlow.{EmitFlow}
 use Rattle.emit_native.specs.declared.EmitFlow.the-variants.{Continue, Terminate, None}
 use Rattle.a64.specs.Writers.{add-x, and-x}
 use Rattle.emit_native.specs.Calls.{Call, emit, mov-imm64, load, store, rust, call-words, groups, if-not-0, store-rd, Emission, calls-first, then-store-rd}
-use Rattle.emit_native.specs.Isa.{OPCODE-LUI, OPCODE-AUIPC, OPCODE-JAL, OPCODE-JALR, OPCODE-BRANCH, OPCODE-OP-IMM, OPCODE-OP, OPCODE-OP-IMM-32, OPCODE-OP-32, OPCODE-MISC-MEM, F3-FENCE, F3-FENCE-I, not-1, F3-ADD-SUB, F3-SLL, F3-SLT, F3-SLTU, F3-XOR, F3-SRL-SRA, F3-OR, F3-AND, F3-BEQ, F3-BNE, F3-BLT, F3-BGE, F3-BLTU, F3-BGEU, F7-BASE, F7-SUB-SRA, F7-MULDIV}
-use Rattle.emit_native.specs.Decode.{imm-i, imm-u, imm-j, imm-ci, c-funct3, c-op, c-rd, c-rs2, rs1-prime, rs2-prime, imm-addi4spn, imm-addi16sp}
+use Rattle.isa.specs.Isa.{OPCODE-LUI, OPCODE-AUIPC, OPCODE-JAL, OPCODE-JALR, OPCODE-BRANCH, OPCODE-OP-IMM, OPCODE-OP, OPCODE-OP-IMM-32, OPCODE-OP-32, OPCODE-MISC-MEM, F3-FENCE, F3-FENCE-I, F3-ADD-SUB, F3-SLL, F3-SLT, F3-SLTU, F3-XOR, F3-SRL-SRA, F3-OR, F3-AND, F3-BEQ, F3-BNE, F3-BLT, F3-BGE, F3-BLTU, F3-BGEU, F7-BASE, F7-SUB-SRA, F7-MULDIV}
+use Rattle.emit_native.specs.Hart.{not-1}
+use Rattle.isa.specs.Decode.{imm-i, imm-u, imm-j, imm-ci, c-funct3, c-op, c-rd, c-rs2, rs1-prime, rs2-prime, imm-addi4spn, imm-addi16sp}
 use Rattle.word.specs.Word.{add}
 use Rattle.emit_native.specs.Instr16 as I
 use Rattle.emit_native.specs.Instr32 as J

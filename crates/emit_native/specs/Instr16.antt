@@ -4,8 +4,8 @@ use mathlib.Core.Bool.{Bool, cond, _&&_}
 use mathlib.Core.List.{List, [], _∷_}
 use lib.Dec.{eqb}
 use Rattle.word.specs.Word.{add, shl}
-use Rattle.emit_native.specs.Isa.{C-EQ, C-NE, not-1}
-use Rattle.emit_native.specs.Decode.{c-funct3, c-op, c-rd, c-rs2, rd-prime, rs1-prime, rs2-prime, imm-ci, shamt, imm-addi4spn, imm-addi16sp, imm-cj, imm-cb}
+use Rattle.emit_native.specs.Hart.{C-EQ, C-NE, not-1}
+use Rattle.isa.specs.Decode.{c-funct3, c-op, c-rd, c-rs2, rd-prime, rs1-prime, rs2-prime, imm-ci, shamt, imm-addi4spn, imm-addi16sp, imm-cj, imm-cb}
 use Rattle.a64.specs.Writers.{add-x, sub-x, and-x, orr-x, eor-x, lslv-x, lsrv-x, asrv-x, cmp-x, csel-x, sxtw-x}
 use Rattle.emit_native.specs.Calls.{Call, emit, mov-imm64, load, store, if-not-0, Emission, continue, terminate, none, calls-first}
 

@@ -5,8 +5,9 @@ use mathlib.Core.List.{[], _∷_, _++_}
 use lib.Dec.{eqb}
 use Rattle.word.specs.Word.{add}
 use Rattle.isa.specs.declared.decode.Decoded32.{Decoded32}
-use Rattle.emit_native.specs.Isa.{OPCODE-LUI, OPCODE-AUIPC, OPCODE-JAL, OPCODE-JALR, OPCODE-BRANCH, OPCODE-OP-IMM, OPCODE-OP, OPCODE-OP-IMM-32, OPCODE-OP-32, OPCODE-MISC-MEM, F3-ADD-SUB, F3-SLL, F3-SLT, F3-SLTU, F3-XOR, F3-SRL-SRA, F3-OR, F3-AND, F3-BEQ, F3-BNE, F3-BLT, F3-BGE, F3-BLTU, F3-BGEU, F3-FENCE, F3-FENCE-I, F7-BASE, F7-SUB-SRA, F7-MULDIV, C-EQ, C-NE, C-CS, C-CC, C-MI, C-GE, C-LT, u64-MAX, i64-MIN, not-1}
-use Rattle.emit_native.specs.Decode.{imm-i, imm-b, imm-u, imm-j}
+use Rattle.isa.specs.Isa.{OPCODE-LUI, OPCODE-AUIPC, OPCODE-JAL, OPCODE-JALR, OPCODE-BRANCH, OPCODE-OP-IMM, OPCODE-OP, OPCODE-OP-IMM-32, OPCODE-OP-32, OPCODE-MISC-MEM, F3-ADD-SUB, F3-SLL, F3-SLT, F3-SLTU, F3-XOR, F3-SRL-SRA, F3-OR, F3-AND, F3-BEQ, F3-BNE, F3-BLT, F3-BGE, F3-BLTU, F3-BGEU, F3-FENCE, F3-FENCE-I, F7-BASE, F7-SUB-SRA, F7-MULDIV}
+use Rattle.emit_native.specs.Hart.{C-EQ, C-NE, C-CS, C-CC, C-MI, C-GE, C-LT, u64-MAX, i64-MIN, not-1}
+use Rattle.isa.specs.Decode.{imm-i, imm-b, imm-u, imm-j}
 use Rattle.a64.specs.Writers.{add-x, sub-x, and-x, orr-x, eor-x, lslv-x, lsrv-x, asrv-x, mul-x, smulh-x, umulh-x, udiv-x, sdiv-x, cmp-x, csel-x, sxtw-x}
 use Rattle.emit_native.specs.Calls.{emit, mov-imm64, load, store, if-not-0, Emission, continue, terminate, none, calls-first, then-store-rd}
 

@@ -1,5 +1,4 @@
-pub mod Isa
-pub mod Decode
+pub mod Hart
 pub mod Calls
 pub mod Instr16
 pub mod Instr32

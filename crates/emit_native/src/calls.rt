@@ -57,7 +57,14 @@ pub fn mov_reg(em: InstrEmitter, slot_offset: u64, rd: u8, val: u64) -> InstrEmi
 }
 
 // Guest register rs and a constant into X9 and X10, the word of a form on them, and X11 into guest register rd.
-pub fn with_imm(em: InstrEmitter, slot_offset: u64, rs: u8, imm: u64, w: u32, rd: u8) -> InstrEmitter
+pub fn with_imm(
+    em: InstrEmitter,
+    slot_offset: u64,
+    rs: u8,
+    imm: u64,
+    w: u32,
+    rd: u8,
+) -> InstrEmitter
     requires { ⌜ («slot_offset» ≤ max-slot-offset) × (rs < 32) × (rd < 32) ⌝ }
     ensures { λ r. ⌜ held r ≡ emitted-all (held em) (groups «slot_offset» (Call.load 9 rs ∷ Call.mov-imm64 10 imm ∷ Call.emit w ∷ Call.store 11 rd ∷ [])) ⌝ }
 {

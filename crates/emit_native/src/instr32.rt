@@ -4,7 +4,7 @@ ghost use Prim.Native.Nat.{_<_, _≤_};
 ghost use Rattle.rules.specs.Limits.{max-slot-offset};
 ghost use Rattle.a64.specs.Parts.{held};
 ghost use Rattle.emit_native.specs.Parts.{Emits, InRange};
-ghost use Rattle.emit_native.specs.Decode.{decode32};
+ghost use Rattle.isa.specs.Decode.{decode32};
 ghost use Rattle.emit_native.specs.Instr32.{lui, auipc, jal, jalr, branch-on, branch, op-imm, op-imm-32, op-32, op, misc-mem, emit-native-instr};
 use crate::Emitted;
 use crate::calls::go_on;
@@ -156,7 +156,13 @@ fn emit_misc_mem(em: InstrEmitter, slot_offset: u64, d: Decoded32) -> Emitted
     }
 }
 
-pub fn emit_native_instr(em: InstrEmitter, slot_offset: u64, pc: u64, instr: u32, d: Decoded32) -> Emitted
+pub fn emit_native_instr(
+    em: InstrEmitter,
+    slot_offset: u64,
+    pc: u64,
+    instr: u32,
+    d: Decoded32,
+) -> Emitted
     requires { ⌜ («slot_offset» ≤ max-slot-offset) × (d ≡ decode32 instr) ⌝ }
     ensures { λ r. ⌜ Emits «slot_offset» (held em) (emit-native-instr pc instr d) r ⌝ }
 {

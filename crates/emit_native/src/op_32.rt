@@ -3,7 +3,7 @@ ghost use mathlib.Core.Path.{_≡_};
 ghost use mathlib.Core.List.{[], _∷_};
 ghost use Prim.Native.Nat.{ℕ, _<_};
 ghost use Rattle.a64.specs.Parts.{held, emitted-all};
-ghost use Rattle.emit_native.specs.Isa.{F7-BASE, F7-SUB-SRA, F7-MULDIV};
+ghost use Rattle.isa.specs.Isa.{F7-BASE, F7-SUB-SRA, F7-MULDIV};
 ghost use Rattle.a64.specs.Writers.{and-x, sxtw-x};
 ghost use Rattle.emit_native.specs.Calls.{Call, groups};
 ghost use Rattle.emit_native.specs.Parts.{Emits};

@@ -1,7 +1,7 @@
 // The arms of OPCODE_OP_IMM and OPCODE_OP_IMM_32: from X9 and a constant in X10 into X11.
 ghost use Prim.Native.Nat.{ℕ};
 ghost use Rattle.a64.specs.Parts.{held};
-ghost use Rattle.emit_native.specs.Isa.{F3-SRL-SRA};
+ghost use Rattle.isa.specs.Isa.{F3-SRL-SRA};
 ghost use Rattle.emit_native.specs.Parts.{Emits};
 ghost use Rattle.emit_native.specs.Instr32.{op-imm-arm, op-imm-32-arm};
 use crate::Emitted;

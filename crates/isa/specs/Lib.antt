@@ -1,3 +1,5 @@
 pub mod Formats
 pub mod Classes
+pub mod Isa
+pub mod Decode
 pub mod Parts

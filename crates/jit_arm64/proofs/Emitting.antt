@@ -17,8 +17,8 @@ use Rattle.isa.specs.declared.decode.Decoded32.{Decoded32}
 use Rattle.emit_native.specs.declared.EmitFlow.the-variants.{Terminate}
 use Rattle.emit_native.specs.declared.Emitted.{Emitted}
 use Rattle.emit_native.specs.declared.Host.{Host}
-use Rattle.emit_native.specs.Isa.{OPCODE-LOAD, OPCODE-STORE, OPCODE-LOAD-FP, OPCODE-STORE-FP, OPCODE-SYSTEM, OPCODE-AMO, F3-LB, F3-LH, F3-LW, F3-LD, F3-LBU, F3-LHU, F3-LWU, F3-SB, F3-SH, F3-SW, F3-SD}
-use Rattle.emit_native.specs.Decode.{decode32, c-op, c-funct3, imm-i, imm-s}
+use Rattle.isa.specs.Isa.{OPCODE-LOAD, OPCODE-STORE, OPCODE-LOAD-FP, OPCODE-STORE-FP, OPCODE-SYSTEM, OPCODE-AMO, F3-LB, F3-LH, F3-LW, F3-LD, F3-LBU, F3-LHU, F3-LWU, F3-SB, F3-SH, F3-SW, F3-SD}
+use Rattle.isa.specs.Decode.{decode32, c-op, c-funct3, imm-i, imm-s}
 use Rattle.a64.specs.Writers.{add-x, ldr-x, str-x, mov-x, sub-sp-imm, add-sp-imm, blr, ret}
 use Rattle.emit_native.specs.Calls.{Call, emit, mov-imm64, load, forms, groups, words, if-not-0, Emission, none}
 use Rattle.emit_native.specs.Parts.{Emits}

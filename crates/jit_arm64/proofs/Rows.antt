@@ -12,7 +12,7 @@ use Rattle.jit_arm64.specs.declared.Answer.{Answer}
 use Rattle.jit_arm64.specs.Translate as T
 use Rattle.jit_arm64.specs.Block as B
 use Rattle.emit_native.specs.Calls as C
-use Rattle.emit_native.specs.Decode as D
+use Rattle.isa.specs.Decode as D
 use Rattle.emit_native.specs.Instr16 as I
 use Rattle.emit_native.specs.TermHelper as H
 

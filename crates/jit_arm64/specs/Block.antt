@@ -14,7 +14,7 @@ use Rattle.jit_arm64.specs.declared.block.Stop.{Stop}
 use Rattle.jit_arm64.specs.declared.block.Stop.the-variants.{Limit, Ended, Helper, Uncovered, NotFetched}
 use Rattle.a64.specs.Writers.{ret}
 use Rattle.emit_native.specs.Calls.{Call, emit, mov-imm64, Emission}
-use Rattle.emit_native.specs.Decode.{decode32}
+use Rattle.isa.specs.Decode.{decode32}
 use Rattle.emit_native.specs.Instr16.{emit-native-instr16}
 use Rattle.emit_native.specs.Instr32.{emit-native-instr}
 use Rattle.emit_native.specs.TermHelper.{emit-native-term-helper16, emit-native-term-helper32}

@@ -18,12 +18,12 @@ use Rattle.rv64.specs.Alu.{value}
 use Rattle.rv64.specs.Execute.{read, write, exec}
 use Rattle.rv64.specs.Compressed as C
 use Rattle.emit_native.specs.declared.EmitFlow.{EmitFlow}
-use Rattle.emit_native.specs.Isa.{not-1}
+use Rattle.emit_native.specs.Hart.{not-1}
 use Rattle.a64.specs.Writers.{and-x, orr-x}
 use Rattle.emit_native.specs.Calls.{emit, mov-imm64, load, store, Emission, continue, terminate, none, calls-first, store-rd}
-use Rattle.emit_native.specs.Decode as J
+use Rattle.isa.specs.Decode as J
 use Rattle.emit_native.specs.Instr16 as E
-use Rattle.emit_native.proofs.Decoding.{imm-ci-is, shamt-is, imm-addi4spn-is, imm-addi16sp-is, imm-cj-is, imm-cb-is}
+use Rattle.isa.proofs.Decoding.{imm-ci-is, shamt-is, imm-addi4spn-is, imm-addi16sp-is, imm-cj-is, imm-cb-is}
 use Rattle.translation.proofs.Calls.{Host, form-step, call-step, calls-run, scratch, form-fits, written, fits, keeps, all-fit, all-keep, Kept}
 use Rattle.translation.proofs.Alus.{body, body-law}
 use Rattle.translation.proofs.Instrs.{Agrees, nothing, two, body-fine, condition, fork, calls-first-does, with-constant, fork-does, fork-next, even, read-slot, op-agrees, imm-agrees, lui-agrees, jal-agrees, nop-agrees, uncovered-agrees, helper-agrees}

@@ -17,9 +17,9 @@ use Rattle.rv64.specs.Alu.{value}
 use Rattle.rv64.specs.Decode as D
 use Rattle.rv64.specs.Decode.{Table, lookup}
 use Rattle.emit_native.specs.Calls.{Call, mov-imm64, load, Emission, continue, none, calls-first, store-rd, then-store-rd}
-use Rattle.emit_native.specs.Decode as J
+use Rattle.isa.specs.Decode as J
 use Rattle.emit_native.specs.Instr32 as E
-use Rattle.emit_native.proofs.Decoding.{imm-i-is, imm-b-is, imm-u-is, imm-j-is}
+use Rattle.isa.proofs.Decoding.{imm-i-is, imm-b-is, imm-u-is, imm-j-is}
 use Rattle.translation.proofs.Calls.{Host, Kept, calls-run}
 use Rattle.translation.proofs.Alus.{body, slliw, srliw, sraiw, body-law, slliw-law, srliw-law, sraiw-law}
 use Rattle.translation.proofs.Instrs.{Agrees, Fine, nothing, one, two, with-constant, body-fine, slliw-fine, srliw-fine, sraiw-fine, condition, op-agrees, imm-agrees, lui-agrees, auipc-agrees, jal-agrees, jalr-agrees, branch-agrees, nop-agrees, uncovered-agrees, helper-agrees}

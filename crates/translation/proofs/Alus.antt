@@ -16,7 +16,7 @@ use Rattle.a64_run.specs.Exec.{op-value, holds, holds-even, difference}
 use Rattle.a64_run.proofs.Flags.{difference-sub, z-law, c-law, n-law, lt-law}
 use Rattle.rv64.specs.declared.alu.Alu.{Alu}
 use Rattle.rv64.specs.Alu.{value, quotient, remainder, quotient-u, remainder-u}
-use Rattle.emit_native.specs.Isa.{C-EQ, C-CC, C-MI, C-LT, u64-MAX, i64-MIN}
+use Rattle.emit_native.specs.Hart.{C-EQ, C-CC, C-MI, C-LT, u64-MAX, i64-MIN}
 use Rattle.a64.specs.Writers.{add-x, sub-x, and-x, orr-x, eor-x, lslv-x, lsrv-x, asrv-x, mul-x, smulh-x, umulh-x, udiv-x, sdiv-x, cmp-x, csel-x, sxtw-x}
 use Rattle.emit_native.specs.Calls.{Call, emit, mov-imm64}
 use Rattle.translation.proofs.Calls.{Host, form-step, call-step, calls-run}

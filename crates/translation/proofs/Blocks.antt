@@ -29,8 +29,8 @@ use Rattle.emit_native.specs.declared.Host as JH
 use Rattle.jit_arm64.specs.declared.block.Stop.{Stop}
 use Rattle.emit_native.specs.Calls.{Call, mov-imm64, Emission}
 use Rattle.emit_native.specs.Calls as JC
-use Rattle.emit_native.specs.Isa.{OPCODE-SYSTEM, OPCODE-LOAD, OPCODE-STORE, OPCODE-LOAD-FP, OPCODE-STORE-FP, OPCODE-AMO}
-use Rattle.emit_native.specs.Decode as JD
+use Rattle.isa.specs.Isa.{OPCODE-SYSTEM, OPCODE-LOAD, OPCODE-STORE, OPCODE-LOAD-FP, OPCODE-STORE-FP, OPCODE-AMO}
+use Rattle.isa.specs.Decode as JD
 use Rattle.emit_native.specs.Instr16 as E16
 use Rattle.emit_native.specs.Instr32 as E32
 use Rattle.emit_native.specs.TermHelper as TH

@@ -14,7 +14,7 @@ use Rattle.rv64.specs.Decode.{Table, lookup}
 use Rattle.rv64.specs.Decode as D
 use Rattle.rv64.specs.Compressed as C
 use Rattle.emit_native.specs.declared.Host as H
-use Rattle.emit_native.specs.Decode as J
+use Rattle.isa.specs.Decode as J
 use Rattle.emit_native.specs.TermHelper as T
 use Rattle.emit_native.specs.declared.EmitFlow.{EmitFlow}
 use Rattle.translation.proofs.Agree32.{digit}

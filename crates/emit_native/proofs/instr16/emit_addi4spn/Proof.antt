@@ -2,7 +2,7 @@ use mathlib.Core.Path.{refl}
 use borrow.Author.Tests.{eq-eqb, ne-eqb}
 use Rattle.emit_native.specs.Instr16.{addi4spn}
 use Rattle.a64.specs.Writers.{add-x}
-use Rattle.emit_native.proofs.Decoding.{imm-addi4spn-is}
+use Rattle.isa.proofs.Decoding.{imm-addi4spn-is}
 use borrow.Author.Needs.{needs}
 use Rattle.emit_native.proofs.instr16.emit_addi4spn.Statement.{statement}
 use Rattle.emit_native.proofs.instr16.emit_addi4spn.Tie as tie

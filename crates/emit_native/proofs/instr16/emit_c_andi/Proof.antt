@@ -1,6 +1,6 @@
 use Rattle.emit_native.specs.Instr16.{c-andi}
 use Rattle.a64.specs.Writers.{and-x}
-use Rattle.emit_native.proofs.Decoding.{imm-ci-is}
+use Rattle.isa.proofs.Decoding.{imm-ci-is}
 use borrow.Author.Needs.{needs}
 use Rattle.emit_native.proofs.instr16.emit_c_andi.Statement.{statement}
 use Rattle.emit_native.proofs.instr16.emit_c_andi.Tie as tie

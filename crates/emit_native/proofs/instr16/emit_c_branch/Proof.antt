@@ -1,5 +1,5 @@
 use Rattle.emit_native.specs.Instr16.{c-branch, c-branch-on}
-use Rattle.emit_native.proofs.Decoding.{imm-cb-is}
+use Rattle.isa.proofs.Decoding.{imm-cb-is}
 use borrow.Author.Needs.{needs}
 use Rattle.emit_native.proofs.instr16.emit_c_branch.Statement.{statement}
 use Rattle.emit_native.proofs.instr16.emit_c_branch.Tie as tie

@@ -1,5 +1,5 @@
 use Rattle.emit_native.specs.Instr16.{c-j}
-use Rattle.emit_native.proofs.Decoding.{imm-cj-is}
+use Rattle.isa.proofs.Decoding.{imm-cj-is}
 use borrow.Author.Needs.{needs}
 use Rattle.emit_native.proofs.instr16.emit_c_j.Statement.{statement}
 use Rattle.emit_native.proofs.instr16.emit_c_j.Tie as tie

@@ -1,5 +1,5 @@
 use Rattle.emit_native.specs.Instr16.{c-li}
-use Rattle.emit_native.proofs.Decoding.{imm-ci-is}
+use Rattle.isa.proofs.Decoding.{imm-ci-is}
 use borrow.Author.Needs.{needs}
 use Rattle.emit_native.proofs.instr16.emit_c_li.Statement.{statement}
 use Rattle.emit_native.proofs.instr16.emit_c_li.Tie as tie

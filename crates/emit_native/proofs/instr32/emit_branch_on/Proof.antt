@@ -1,5 +1,5 @@
 use Rattle.emit_native.specs.Instr32.{branch-on}
-use Rattle.emit_native.proofs.Decoding.{imm-b-is}
+use Rattle.isa.proofs.Decoding.{imm-b-is}
 use borrow.Author.Needs.{needs}
 use Rattle.emit_native.proofs.instr32.emit_branch_on.Statement.{statement}
 use Rattle.emit_native.proofs.instr32.emit_branch_on.Tie as tie

@@ -1,5 +1,5 @@
 use Rattle.emit_native.specs.Instr32.{jal}
-use Rattle.emit_native.proofs.Decoding.{imm-j-is}
+use Rattle.isa.proofs.Decoding.{imm-j-is}
 use mathlib.Core.List.{map-append}
 use Rattle.a64.proofs.Emission.{emitted-all-append}
 use borrow.Author.Needs.{needs}

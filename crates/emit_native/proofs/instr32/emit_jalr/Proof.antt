@@ -1,12 +1,12 @@
 use Rattle.emit_native.specs.Instr32.{jalr}
 use Rattle.a64.specs.Writers.{add-x, and-x}
 use Rattle.emit_native.specs.Calls.{load, store, emit, mov-imm64, if-not-0, terminate}
-use Rattle.emit_native.proofs.Decoding.{imm-i-is}
+use Rattle.isa.proofs.Decoding.{imm-i-is}
 use Rattle.emit_native.proofs.Chains.{first}
 use mathlib.Core.List.{[], _∷_}
 use Rattle.word.specs.Word.{add}
-use Rattle.emit_native.specs.Isa.{not-1}
-use Rattle.emit_native.specs.Decode.{imm-i}
+use Rattle.emit_native.specs.Hart.{not-1}
+use Rattle.isa.specs.Decode.{imm-i}
 use Rattle.a64.specs.Parts.{held}
 use borrow.Author.Needs.{needs}
 use Rattle.emit_native.proofs.instr32.emit_jalr.Statement.{statement}

@@ -1,5 +1,5 @@
 use Rattle.emit_native.specs.Instr32.{lui}
-use Rattle.emit_native.proofs.Decoding.{imm-u-is}
+use Rattle.isa.proofs.Decoding.{imm-u-is}
 use borrow.Author.Needs.{needs}
 use Rattle.emit_native.proofs.instr32.emit_lui.Statement.{statement}
 use Rattle.emit_native.proofs.instr32.emit_lui.Tie as tie

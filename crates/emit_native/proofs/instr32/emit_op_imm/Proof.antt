@@ -1,6 +1,6 @@
 use Rattle.emit_native.specs.Instr32.{op-imm}
 use Rattle.emit_native.specs.Calls.{load}
-use Rattle.emit_native.proofs.Decoding.{imm-i-is}
+use Rattle.isa.proofs.Decoding.{imm-i-is}
 use Rattle.emit_native.proofs.Chains.{then, first}
 use mathlib.Core.List.{[], _∷_}
 use borrow.Author.Needs.{needs}

@@ -1,4 +1,4 @@
-use Rattle.emit_native.proofs.Decoding.{imm-i-is}
+use Rattle.isa.proofs.Decoding.{imm-i-is}
 use borrow.Author.Needs.{needs}
 use Rattle.emit_native.proofs.term_helper.emit_load.Statement.{statement}
 use Rattle.emit_native.proofs.term_helper.emit_load.Tie as tie

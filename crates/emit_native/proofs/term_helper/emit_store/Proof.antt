@@ -1,4 +1,4 @@
-use Rattle.emit_native.proofs.Decoding.{imm-s-is}
+use Rattle.isa.proofs.Decoding.{imm-s-is}
 use borrow.Author.Needs.{needs}
 use Rattle.emit_native.proofs.term_helper.emit_store.Statement.{statement}
 use Rattle.emit_native.proofs.term_helper.emit_store.Tie as tie
