@@ -11,23 +11,8 @@ use Rattle.a64.specs.declared.forms.Op.{Op}
 use Rattle.a64.specs.declared.forms.Op.the-variants.{Add, Sub, And, Orr, Eor, Lslv, Lsrv, Asrv, Mul, Smulh, Umulh, Udiv, Sdiv}
 use Rattle.a64.specs.declared.forms.Form.{Form}
 use Rattle.a64.specs.declared.forms.Form.the-variants.{DataProcessing, Ldr, Str, Movz, Movk, Cmp, Csel, Sxtw, AddSp, SubSp, Blr, Ret, Unreadable}
+use Rattle.a64.specs.Parts.{InRange}
 use Rattle.a64.specs.Forms.{op-word, ops, encode, rd, rn, rm, imm12, imm16, top-bits, mid-bits, low-bits, form-if, op-bits, decode-op, decode}
-
--- each field fits its bits
-abbrev pub InRange : Form → Type 0
-InRange (DataProcessing op rd rn rm) = (rd < 32) × (rn < 32) × (rm < 32)
-InRange (Ldr rt rn imm) = (rt < 32) × (rn < 32) × (imm < 4096)
-InRange (Str rt rn imm) = (rt < 32) × (rn < 32) × (imm < 4096)
-InRange (Movz rd hw imm) = (rd < 32) × (hw < 4) × (imm < 65536)
-InRange (Movk rd hw imm) = (rd < 32) × (hw < 4) × (imm < 65536)
-InRange (Cmp rn rm) = (rn < 32) × (rm < 32)
-InRange (Csel rd rn rm c) = (rd < 32) × (rn < 32) × (rm < 32) × (c < 16)
-InRange (Sxtw rd rn) = (rd < 32) × (rn < 32)
-InRange (AddSp imm) = imm < 4096
-InRange (SubSp imm) = imm < 4096
-InRange (Blr rn) = rn < 32
-InRange Ret = Unit {0}
-InRange Unreadable = Unit {0}
 
 -- ---- a form's word is read as the form
 

@@ -1,5 +1,5 @@
 -- What the functions of this crate promise one another; no operation's contract reaches it.
-use Prim.Native.Nat.{ℕ, _+_, _≤_}
+use Prim.Native.Nat.{ℕ, _+_, _≤_, _<_}
 use mathlib.Core.Path.{_≡_}
 use mathlib.Core.Bool.{Bool, true, false, cond}
 use mathlib.Core.List.{List, [], _∷_, _++_}
@@ -7,8 +7,26 @@ use lib.ListN.{length, take, drop}
 use lib.Dec.{leb}
 use Rattle.a64.specs.declared.emitter.A64Emitter.{A64Emitter}
 use Rattle.a64.specs.declared.emitter.InstrEmitter.{InstrEmitter}
+use Rattle.a64.specs.declared.forms.Form.{Form}
+use Rattle.a64.specs.declared.forms.Form.the-variants.{DataProcessing, Ldr, Str, Movz, Movk, Cmp, Csel, Sxtw, AddSp, SubSp, Blr, Ret, Unreadable}
 use Rattle.a64.specs.Emitter.{bytes}
 use Rattle.rules.specs.Limits.{instr-words}
+
+-- each field fits its bits
+abbrev pub InRange : Form → Type 0
+InRange (DataProcessing op rd rn rm) = (rd < 32) × (rn < 32) × (rm < 32)
+InRange (Ldr rt rn imm) = (rt < 32) × (rn < 32) × (imm < 4096)
+InRange (Str rt rn imm) = (rt < 32) × (rn < 32) × (imm < 4096)
+InRange (Movz rd hw imm) = (rd < 32) × (hw < 4) × (imm < 65536)
+InRange (Movk rd hw imm) = (rd < 32) × (hw < 4) × (imm < 65536)
+InRange (Cmp rn rm) = (rn < 32) × (rm < 32)
+InRange (Csel rd rn rm c) = (rd < 32) × (rn < 32) × (rm < 32) × (c < 16)
+InRange (Sxtw rd rn) = (rd < 32) × (rn < 32)
+InRange (AddSp imm) = imm < 4096
+InRange (SubSp imm) = imm < 4096
+InRange (Blr rn) = rn < 32
+InRange Ret = Unit {0}
+InRange Unreadable = Unit {0}
 
 -- ---- the words that an emitter holds, an instruction's and a block's, and what the calls that add words leave
 

@@ -4,15 +4,14 @@ use native.Mathlib.Omega.{arith}
 use mathlib.Core.Path.{_≡_, refl, sym, ap, _∙_}
 use mathlib.Core.Bool.{Bool, true, false}
 use mathlib.Core.Logic.{_⊎_, inl, inr}
-use mathlib.Core.List.{List, [], _∷_, _++_, append-assoc, append-nil, map-append, flatten}
+use mathlib.Core.List.{List, [], _∷_, _++_, append-assoc, append-nil, flatten}
 use lib.Dec.{eqb}
 use lib.ListN.{length, take, length-append, length-take}
 use borrow.Author.Tests.{eqb-true, eq-eqb, ne-eqb}
-use Rattle.a64.specs.declared.forms.Form.{Form}
-use Rattle.a64.specs.Forms.{encode}
-use Rattle.a64.specs.Emitter.{encoded, halfword, constant}
-use Rattle.a64.specs.Parts.{max-words, held, Added}
-use Rattle.a64.proofs.Emission.{constant-length, upper-none, emitted-all-new, emitted-fits, length-encoded}
+use Rattle.rules.specs.Limits.{inline-words, instr-words, max-words}
+use Rattle.a64.specs.Writers as W
+use Rattle.a64.specs.Parts.{held, Added}
+use Rattle.a64.proofs.Emission.{constant-length, movk-none, emitted-all-new, emitted-fits}
 use Rattle.isa.specs.declared.decode.Decoded32.{Decoded32}
 use Rattle.emit_native.specs.declared.EmitFlow.the-variants.{Terminate}
 use Rattle.emit_native.specs.declared.Emitted.{Emitted}
@@ -20,7 +19,7 @@ use Rattle.emit_native.specs.declared.Host.{Host}
 use Rattle.isa.specs.Isa.{OPCODE-LOAD, OPCODE-STORE, OPCODE-LOAD-FP, OPCODE-STORE-FP, OPCODE-SYSTEM, OPCODE-AMO, F3-LB, F3-LH, F3-LW, F3-LD, F3-LBU, F3-LHU, F3-LWU, F3-SB, F3-SH, F3-SW, F3-SD}
 use Rattle.isa.specs.Decode.{decode32, c-op, c-funct3, imm-i, imm-s}
 use Rattle.a64.specs.Writers.{add-x, ldr-x, str-x, mov-x, sub-sp-imm, add-sp-imm, blr, ret}
-use Rattle.emit_native.specs.Calls.{Call, emit, mov-imm64, load, forms, groups, words, if-not-0, Emission, none}
+use Rattle.emit_native.specs.Calls.{Call, emit, mov-imm64, load, rust, call-words, groups, words-in, words, if-not-0, Emission, none}
 use Rattle.emit_native.specs.Parts.{Emits}
 use Rattle.emit_native.specs.Instr16.{emit-native-instr16, quadrant-0, quadrant-2}
 use Rattle.emit_native.specs.Instr32.{emit-native-instr}
@@ -31,16 +30,12 @@ use Rattle.jit_arm64.specs.Parts.{Compiled}
 
 -- ---- words after others
 
-pub forms-append : (slots : ℕ) (cs ds : List Call) → flatten (groups slots (cs ++ ds)) ≡ flatten (groups slots cs) ++ flatten (groups slots ds)
-unfolding flatten
-forms-append slots [] ds = refl
-forms-append slots (c ∷ cs) ds =
-    ap (λ (l : List Form). forms slots c ++ l) (forms-append slots cs ds)
-    ∙ sym (append-assoc (forms slots c) (flatten (groups slots cs)) (flatten (groups slots ds)))
-
-pub words-append : (slots : ℕ) (cs ds : List Call) → words slots (cs ++ ds) ≡ words slots cs ++ words slots ds
-unfolding words
-words-append slots cs ds = ap encoded (forms-append slots cs ds) ∙ map-append encode (flatten (groups slots cs)) (flatten (groups slots ds))
+pub words-append : (slot-offset : ℕ) (cs ds : List Call) → words slot-offset (cs ++ ds) ≡ words slot-offset cs ++ words slot-offset ds
+unfolding words-in flatten
+words-append slot-offset [] ds = refl
+words-append slot-offset (c ∷ cs) ds =
+    ap (λ (l : List ℕ). call-words rust slot-offset c ++ l) (words-append slot-offset cs ds)
+    ∙ sym (append-assoc (call-words rust slot-offset c) (words slot-offset cs) (words slot-offset ds))
 
 -- the words ws after the first n of l: then the first r of l′
 pub record Appended (l : List ℕ) (n : ℕ) (l′ : List ℕ) (r : ℕ) (ws : List ℕ) : Type 0 where
@@ -60,7 +55,7 @@ put {l} {l′} {n} {r} {ws} long room added =
 -- ---- the emitters by the width
 
 module _ (h : Host) (pc instr : ℕ) where
-  pub native16 : (low : ℕ) → low ≡ instr → (instr % 4 ≡ 3 → ⊥) → emit-native h pc instr ≡ emit-native-instr16 (h .ebreak) pc low
+  pub native16 : (low : ℕ) → low ≡ instr → (instr % 4 ≡ 3 → ⊥) → emit-native h pc instr ≡ emit-native-instr16 (h .«ignore_ebreak») pc low
   unfolding emit-native
   native16 low e n = rw (ne-eqb (instr % 4) 3 n, e) refl
 
@@ -79,20 +74,20 @@ module _ (h : Host) (pc instr : ℕ) where
 -- ---- a helper's call
 
 -- a constant of 16 bits is one word
-pub constant-small : (rd v : ℕ) → v < 65536 → length (constant rd v) ≡ 1
+pub constant-small : (rd v : ℕ) → v < 65536 → length (W.mov-imm64 rd v) ≡ 1
 constant-small rd v h =
-    let a : halfword 1 v ≡ 0 = omega arith in
-    let b : halfword 2 v ≡ 0 = omega arith in
-    let c : halfword 3 v ≡ 0 = omega arith in
-    constant-length rd v 0 0 0 (ap length (upper-none rd 1 (halfword 1 v) a)) (ap length (upper-none rd 2 (halfword 2 v) b)) (ap length (upper-none rd 3 (halfword 3 v) c))
+    let a : W.part v 1 ≡ 0 = omega arith in
+    let b : W.part v 2 ≡ 0 = omega arith in
+    let c : W.part v 3 ≡ 0 = omega arith in
+    constant-length rd v 0 0 0 (ap length (movk-none rd 1 (W.part v 1) a)) (ap length (movk-none rd 2 (W.part v 2) b)) (ap length (movk-none rd 3 (W.part v 3) c))
 
-module _ (slots : ℕ) where
+module _ (slot-offset : ℕ) where
   -- a constant of 16 bits
-  pub small : (rd v : ℕ) → v < 65536 → size slots (mov-imm64 rd v ∷ []) ≡ 1
+  pub small : (rd v : ℕ) → v < 65536 → size slot-offset (mov-imm64 rd v ∷ []) ≡ 1
   unfolding flatten
-  small rd v h = rw (append-nil (constant rd v)) (constant-small rd v h)
+  small rd v h = rw (append-nil (W.mov-imm64 rd v)) (constant-small rd v h)
 
-  call-size : (helper k : ℕ) → k < 65536 → size slots (call-helper helper k) ≤ 12
+  call-size : (helper k : ℕ) → k < 65536 → size slot-offset (call-helper helper k) ≤ 12
   call-size helper k h =
       let cs : List Call = mov-imm64 16 helper ∷ emit (sub-sp-imm 16) ∷ emit (str-x 30 31 0) ∷ emit (blr 16) ∷ emit (ldr-x 30 31 0) ∷ emit (add-sp-imm 16) ∷ [] in
       let c : List Call = mov-imm64 12 k ∷ [] in
@@ -100,19 +95,19 @@ module _ (slots : ℕ) where
       let es : List Call = emit ret ∷ [] in
       omega (
         arith,
-        size-append slots cs (if-not-0 k (c ++ d) ++ es),
-        size-append slots (if-not-0 k (c ++ d)) es,
-        size-le slots cs,
-        size-le slots es,
-        if-size slots k (c ++ d) 2 (omega (arith, size-append slots c d, small 12 k h, size-le slots d)),
+        size-append slot-offset cs (if-not-0 k (c ++ d) ++ es),
+        size-append slot-offset (if-not-0 k (c ++ d)) es,
+        size-le slot-offset cs,
+        size-le slot-offset es,
+        if-size slot-offset k (c ++ d) 2 (omega (arith, size-append slot-offset c d, small 12 k h, size-le slot-offset d)),
       )
 
-  exec-size : (helper pc instr k : ℕ) → k < 65536 → size slots (call-exec helper pc instr k) ≤ 30
+  exec-size : (helper pc instr k : ℕ) → k < 65536 → size slot-offset (call-exec helper pc instr k) ≤ instr-words
   exec-size helper pc instr k b =
       let cs : List Call = emit (mov-x 0 1) ∷ emit (mov-x 1 2) ∷ emit (mov-x 2 3) ∷ emit (mov-x 3 4) ∷ emit (mov-x 4 5) ∷ mov-imm64 5 instr ∷ mov-imm64 6 pc ∷ [] in
-      omega (arith, size-append slots cs (call-helper helper k), size-le slots cs, call-size helper k b)
+      omega (arith, size-append slot-offset cs (call-helper helper k), size-le slot-offset cs, call-size helper k b)
 
-  load-size : (helper m pc instr : ℕ) (d : Decoded32) (k : ℕ) → k < 65536 → m < 65536 → d .rd < 65536 → size slots (load-calls helper m pc instr d k) ≤ 30
+  load-size : (helper m pc instr : ℕ) (d : Decoded32) (k : ℕ) → k < 65536 → m < 65536 → d .rd < 65536 → size slot-offset (load-calls helper m pc instr d k) ≤ instr-words
   load-size helper m pc instr d k b h l =
       let cs : List Call = load 9 (d .rs1) ∷ mov-imm64 10 (imm-i instr) ∷ emit (add-x 11 9 10) ∷ emit (mov-x 0 1) ∷ emit (mov-x 1 2) ∷ emit (mov-x 2 3) ∷ [] in
       let c3 : List Call = mov-imm64 3 m ∷ [] in
@@ -122,20 +117,20 @@ module _ (slots : ℕ) where
       let z = call-helper helper k in
       omega (
         arith,
-        size-append slots cs (c3 ++ (c4 ++ (c5 ++ (es ++ z)))),
-        size-append slots c3 (c4 ++ (c5 ++ (es ++ z))),
-        size-append slots c4 (c5 ++ (es ++ z)),
-        size-append slots c5 (es ++ z),
-        size-append slots es z,
-        size-le slots cs,
+        size-append slot-offset cs (c3 ++ (c4 ++ (c5 ++ (es ++ z)))),
+        size-append slot-offset c3 (c4 ++ (c5 ++ (es ++ z))),
+        size-append slot-offset c4 (c5 ++ (es ++ z)),
+        size-append slot-offset c5 (es ++ z),
+        size-append slot-offset es z,
+        size-le slot-offset cs,
         small 3 m h,
         small 4 (d .rd) l,
         small 5 0 (omega arith),
-        size-le slots es,
+        size-le slot-offset es,
         call-size helper k b,
       )
 
-  store-size : (helper m pc instr : ℕ) (d : Decoded32) (k : ℕ) → k < 65536 → m < 65536 → d .rd < 65536 → size slots (store-calls helper m pc instr d k) ≤ 30
+  store-size : (helper m pc instr : ℕ) (d : Decoded32) (k : ℕ) → k < 65536 → m < 65536 → d .rd < 65536 → size slot-offset (store-calls helper m pc instr d k) ≤ instr-words
   store-size helper m pc instr d k b h l =
       let cs : List Call = load 9 (d .rs1) ∷ mov-imm64 10 (imm-s instr) ∷ emit (add-x 11 9 10) ∷ load 12 (d .rs2) ∷ emit (mov-x 0 1) ∷ emit (mov-x 1 2) ∷ emit (mov-x 2 3) ∷ [] in
       let c3 : List Call = mov-imm64 3 m ∷ [] in
@@ -145,16 +140,16 @@ module _ (slots : ℕ) where
       let z = call-helper helper k in
       omega (
         arith,
-        size-append slots cs (c3 ++ (c4 ++ (c5 ++ (es ++ z)))),
-        size-append slots c3 (c4 ++ (c5 ++ (es ++ z))),
-        size-append slots c4 (c5 ++ (es ++ z)),
-        size-append slots c5 (es ++ z),
-        size-append slots es z,
-        size-le slots cs,
+        size-append slot-offset cs (c3 ++ (c4 ++ (c5 ++ (es ++ z)))),
+        size-append slot-offset c3 (c4 ++ (c5 ++ (es ++ z))),
+        size-append slot-offset c4 (c5 ++ (es ++ z)),
+        size-append slot-offset c5 (es ++ z),
+        size-append slot-offset es z,
+        size-le slot-offset cs,
         small 3 m h,
         small 4 (d .rd) l,
-        size-le slots c5,
-        size-le slots es,
+        size-le slot-offset c5,
+        size-le slot-offset es,
         call-size helper k b,
       )
 
@@ -162,11 +157,11 @@ module _ (slots : ℕ) where
 
   -- the helper's emitter refuses, or the inline one does with nothing left and the helper's takes the instruction
   abbrev pub Apart : Emission → Emission → Type 0
-  Apart e helper = (helper ≡ none []) ⊎ ((e ≡ none []) × (helper .flow ≡ Terminate) × (size slots (helper .calls) ≤ 30))
+  Apart e helper = (helper ≡ none []) ⊎ ((e ≡ none []) × (helper .flow ≡ Terminate) × (size slot-offset (helper .calls) ≤ instr-words))
 
   -- taken, or refused
   abbrev Either : Emission → Type 0
-  Either helper = (helper ≡ none []) ⊎ ((helper .flow ≡ Terminate) × (size slots (helper .calls) ≤ 30))
+  Either helper = (helper ≡ none []) ⊎ ((helper .flow ≡ Terminate) × (size slot-offset (helper .calls) ≤ instr-words))
 
   not-0 : (f : ℕ) → memory-funct3 f ≡ true → eqb f 0b000 ≡ false
   not-0 f h = by (eqb f 0b000) (λ t. let z : _≡_ false true = rw (eqb-true f 0b000 t) at h in cc) (λ t. t)
@@ -185,32 +180,32 @@ module _ (slots : ℕ) where
       rw (t, o, u, not-0 (c-funct3 instr) m, not-4 (c-funct3 instr) m))
       (λ u. let z : _≡_ false true = rw (t, u) at h in cc))
 
-  pub apart16 : (h : Host) (pc instr k : ℕ) → k < 65536 → Apart (emit-native-instr16 (h .ebreak) pc instr) (emit-native-term-helper16 h pc instr k)
+  pub apart16 : (h : Host) (pc instr k : ℕ) → k < 65536 → Apart (emit-native-instr16 (h .«ignore_ebreak») pc instr) (emit-native-term-helper16 h pc instr k)
   unfolding emit-native-term-helper16
   apart16 h pc instr k b =
       by (supports (c-op instr) (c-funct3 instr))
-      (λ t. inr (supported (h .ebreak) pc instr t, rw t, rw t (exec-size (h .exec16) pc instr k b)))
+      (λ t. inr (supported (h .«ignore_ebreak») pc instr t, rw t, rw t (exec-size (h .helper16) pc instr k b)))
       (λ t. inl (rw t))
 
   load-either : (h : Host) (pc instr : ℕ) (d : Decoded32) (k funct3 : ℕ) → k < 65536 → d .rd < 65536 → Either (load-helper h pc instr d k funct3)
   unfolding load-helper load-op
   load-either h pc instr d k funct3 b l =
-      by (eqb funct3 F3-LB) (λ t. inr (rw t, rw t (load-size (h .memory) 0 pc instr d k b (omega arith) l)))
-      (λ t. rw t (by (eqb funct3 F3-LH) (λ t. inr (rw t, rw t (load-size (h .memory) 1 pc instr d k b (omega arith) l)))
-      (λ t. rw t (by (eqb funct3 F3-LW) (λ t. inr (rw t, rw t (load-size (h .memory) 2 pc instr d k b (omega arith) l)))
-      (λ t. rw t (by (eqb funct3 F3-LD) (λ t. inr (rw t, rw t (load-size (h .memory) 3 pc instr d k b (omega arith) l)))
-      (λ t. rw t (by (eqb funct3 F3-LBU) (λ t. inr (rw t, rw t (load-size (h .memory) 4 pc instr d k b (omega arith) l)))
-      (λ t. rw t (by (eqb funct3 F3-LHU) (λ t. inr (rw t, rw t (load-size (h .memory) 5 pc instr d k b (omega arith) l)))
-      (λ t. rw t (by (eqb funct3 F3-LWU) (λ t. inr (rw t, rw t (load-size (h .memory) 6 pc instr d k b (omega arith) l)))
+      by (eqb funct3 F3-LB) (λ t. inr (rw t, rw t (load-size (h .«memory_helper») 0 pc instr d k b (omega arith) l)))
+      (λ t. rw t (by (eqb funct3 F3-LH) (λ t. inr (rw t, rw t (load-size (h .«memory_helper») 1 pc instr d k b (omega arith) l)))
+      (λ t. rw t (by (eqb funct3 F3-LW) (λ t. inr (rw t, rw t (load-size (h .«memory_helper») 2 pc instr d k b (omega arith) l)))
+      (λ t. rw t (by (eqb funct3 F3-LD) (λ t. inr (rw t, rw t (load-size (h .«memory_helper») 3 pc instr d k b (omega arith) l)))
+      (λ t. rw t (by (eqb funct3 F3-LBU) (λ t. inr (rw t, rw t (load-size (h .«memory_helper») 4 pc instr d k b (omega arith) l)))
+      (λ t. rw t (by (eqb funct3 F3-LHU) (λ t. inr (rw t, rw t (load-size (h .«memory_helper») 5 pc instr d k b (omega arith) l)))
+      (λ t. rw t (by (eqb funct3 F3-LWU) (λ t. inr (rw t, rw t (load-size (h .«memory_helper») 6 pc instr d k b (omega arith) l)))
       (λ t. inl (rw t))))))))))))))
 
   store-either : (h : Host) (pc instr : ℕ) (d : Decoded32) (k funct3 : ℕ) → k < 65536 → d .rd < 65536 → Either (store-helper h pc instr d k funct3)
   unfolding store-helper store-op
   store-either h pc instr d k funct3 b l =
-      by (eqb funct3 F3-SB) (λ t. inr (rw t, rw t (store-size (h .memory) 16 pc instr d k b (omega arith) l)))
-      (λ t. rw t (by (eqb funct3 F3-SH) (λ t. inr (rw t, rw t (store-size (h .memory) 17 pc instr d k b (omega arith) l)))
-      (λ t. rw t (by (eqb funct3 F3-SW) (λ t. inr (rw t, rw t (store-size (h .memory) 18 pc instr d k b (omega arith) l)))
-      (λ t. rw t (by (eqb funct3 F3-SD) (λ t. inr (rw t, rw t (store-size (h .memory) 19 pc instr d k b (omega arith) l)))
+      by (eqb funct3 F3-SB) (λ t. inr (rw t, rw t (store-size (h .«memory_helper») 16 pc instr d k b (omega arith) l)))
+      (λ t. rw t (by (eqb funct3 F3-SH) (λ t. inr (rw t, rw t (store-size (h .«memory_helper») 17 pc instr d k b (omega arith) l)))
+      (λ t. rw t (by (eqb funct3 F3-SW) (λ t. inr (rw t, rw t (store-size (h .«memory_helper») 18 pc instr d k b (omega arith) l)))
+      (λ t. rw t (by (eqb funct3 F3-SD) (λ t. inr (rw t, rw t (store-size (h .«memory_helper») 19 pc instr d k b (omega arith) l)))
       (λ t. inl (rw t))))))))
 
   both : (e helper : Emission) → e ≡ none [] → Either helper → Apart e helper
@@ -227,26 +222,26 @@ module _ (slots : ℕ) where
       (λ u. by (eqb (d .opcode) OPCODE-STORE)
       (λ t. both _ _ (rw (eqb-true (d .opcode) OPCODE-STORE t)) (rw (s, u, t) (store-either h pc instr d k (d .funct3) b l)))
       (λ v. by (eqb (d .opcode) OPCODE-LOAD-FP)
-      (λ t. both _ _ (rw (eqb-true (d .opcode) OPCODE-LOAD-FP t)) (rw (s, u, v, t) (inr (refl, exec-size (h .exec32) pc instr k b))))
+      (λ t. both _ _ (rw (eqb-true (d .opcode) OPCODE-LOAD-FP t)) (rw (s, u, v, t) (inr (refl, exec-size (h .helper32) pc instr k b))))
       (λ w. by (eqb (d .opcode) OPCODE-STORE-FP)
-      (λ t. both _ _ (rw (eqb-true (d .opcode) OPCODE-STORE-FP t)) (rw (s, u, v, w, t) (inr (refl, exec-size (h .exec32) pc instr k b))))
+      (λ t. both _ _ (rw (eqb-true (d .opcode) OPCODE-STORE-FP t)) (rw (s, u, v, w, t) (inr (refl, exec-size (h .helper32) pc instr k b))))
       (λ x. by (eqb (d .opcode) OPCODE-AMO)
-      (λ t. both _ _ (rw (eqb-true (d .opcode) OPCODE-AMO t)) (rw (s, u, v, w, x, t) (inr (refl, exec-size (h .exec32) pc instr k b))))
+      (λ t. both _ _ (rw (eqb-true (d .opcode) OPCODE-AMO t)) (rw (s, u, v, w, x, t) (inr (refl, exec-size (h .helper32) pc instr k b))))
       (λ t. inl (rw (s, u, v, w, x, t))))))))
 
   -- ---- one instruction, emitted by itself
 
-  pub words-size : (cs : List Call) → length (words slots cs) ≡ size slots cs
-  unfolding words
-  words-size cs = length-encoded (flatten (groups slots cs))
+  pub words-size : (cs : List Call) → length (words slot-offset cs) ≡ size slot-offset cs
+  unfolding words-in
+  words-size cs = refl
 
   -- at most 29 words inline, and a helper's call apart from them
-  pub native-size : (h : Host) (pc instr : ℕ) → size slots (emit-native h pc instr .calls) ≤ 29
+  pub native-size : (h : Host) (pc instr : ℕ) → size slot-offset (emit-native h pc instr .calls) ≤ inline-words
   unfolding emit-native
   native-size h pc instr =
       by (is-32 instr)
-      (λ t. rw t (instr-size slots pc instr (decode32 instr) .within))
-      (λ t. rw t (instr16-size slots (h .ebreak) pc instr .within))
+      (λ t. rw t (instr-size slot-offset pc instr (decode32 instr) .within))
+      (λ t. rw t (instr16-size slot-offset (h .«ignore_ebreak») pc instr .within))
 
   pub native-apart : (h : Host) (pc instr k : ℕ) → k < 65536 → Apart (emit-native h pc instr) (emit-term-helper h pc instr k)
   unfolding emit-native emit-term-helper
@@ -254,38 +249,38 @@ module _ (slots : ℕ) where
       by (is-32 instr) (λ t. rw t (apart32 h pc instr (decode32 instr) k b (omega arith))) (λ t. rw t (apart16 h pc instr k b))
 
   -- from a new emitter
-  pub alone : (h : List ℕ) (e : Emission) (out : Emitted) → h ≡ [] → Emits slots h e out → size slots (e .calls) ≤ 29 → held (out .em) ≡ words slots (e .calls)
-  unfolding words
-  alone h e out new emits few = emits .words ∙ emitted-all-new h (groups slots (e .calls)) new (omega arith)
+  pub alone : (h : List ℕ) (e : Emission) (out : Emitted) → h ≡ [] → Emits slot-offset h e out → size slot-offset (e .calls) ≤ inline-words → held (out .em) ≡ words slot-offset (e .calls)
+  unfolding words-in
+  alone h e out new emits few = emits .words ∙ emitted-all-new h (groups slot-offset (e .calls)) new (omega arith)
 
   -- from what the inline emitter left
-  pub handed-on : (e helper : Emission) (left : List ℕ) (out : Emitted) → Apart e helper → left ≡ words slots (e .calls) → Emits slots left helper out
-      → held (out .em) ≡ words slots (e .calls ++ helper .calls)
-  unfolding words flatten
+  pub handed-on : (e helper : Emission) (left : List ℕ) (out : Emitted) → Apart e helper → left ≡ words slot-offset (e .calls) → Emits slot-offset left helper out
+      → held (out .em) ≡ words slot-offset (e .calls ++ helper .calls)
+  unfolding words-in flatten
   handed-on e helper left out (inl a) q emits = rw a at (emits .words) ∙ q ∙ rw (a, append-nil (e .calls))
   handed-on e helper left out (inr a) q emits =
-      rw (a .0) (emits .words ∙ emitted-all-new left (groups slots (helper .calls)) (q ∙ rw (a .0)) (a .2))
+      rw (a .0) (emits .words ∙ emitted-all-new left (groups slot-offset (helper .calls)) (q ∙ rw (a .0)) (a .2))
 
   -- what the code's emitters answer
-  pub compiled : (h : Host) (pc instr : ℕ) {e : Emission} {new : List ℕ} {out : Emitted} → emit-native h pc instr ≡ e → new ≡ [] → Emits slots new e out
-      → Compiled slots (emit-native h pc instr .calls) (emit-native h pc instr .flow) out
+  pub compiled : (h : Host) (pc instr : ℕ) {e : Emission} {new : List ℕ} {out : Emitted} → emit-native h pc instr ≡ e → new ≡ [] → Emits slot-offset new e out
+      → Compiled slot-offset (emit-native h pc instr .calls) (emit-native h pc instr .flow) out
   compiled h pc instr {e} {new} {out} q n emits =
       let few = rw q at (native-size h pc instr) in
       rw q (record { holds = alone new e out n emits few; flow = emits .flow })
 
   pub compiled-helper : (h : Host) (pc instr k : ℕ) {helper : Emission} {left : List ℕ} {out : Emitted} → k < 65536 → emit-term-helper h pc instr k ≡ helper
-      → left ≡ words slots (emit-native h pc instr .calls) → Emits slots left helper out
-      → Compiled slots (emit-native h pc instr .calls ++ emit-term-helper h pc instr k .calls) (emit-term-helper h pc instr k .flow) out
+      → left ≡ words slot-offset (emit-native h pc instr .calls) → Emits slot-offset left helper out
+      → Compiled slot-offset (emit-native h pc instr .calls ++ emit-term-helper h pc instr k .calls) (emit-term-helper h pc instr k .flow) out
   compiled-helper h pc instr k {helper} {left} {out} b q l emits =
       let a = rw q at (native-apart h pc instr k b) in
       rw q (record { holds = handed-on (emit-native h pc instr) helper left out a l emits; flow = emits .flow })
 
   -- the words of an instruction that a helper takes, and of one that is not covered
-  pub helped-size : (e helper : Emission) → size slots (e .calls) ≤ 29 → Apart e helper → size slots (e .calls ++ helper .calls) ≤ 30
+  pub helped-size : (e helper : Emission) → size slot-offset (e .calls) ≤ inline-words → Apart e helper → size slot-offset (e .calls ++ helper .calls) ≤ instr-words
   unfolding flatten
   helped-size e helper few (inl a) = rw (a, append-nil (e .calls)) (omega arith)
   helped-size e helper few (inr a) = rw (a .0) (a .2)
 
-  pub uncovered-size : (e helper : Emission) → size slots (e .calls) ≤ 29 → Apart e helper → (helper .flow ≡ Terminate → ⊥) → size slots (e .calls ++ helper .calls) ≤ 29
+  pub uncovered-size : (e helper : Emission) → size slot-offset (e .calls) ≤ inline-words → Apart e helper → (helper .flow ≡ Terminate → ⊥) → size slot-offset (e .calls ++ helper .calls) ≤ inline-words
   uncovered-size e helper few (inl a) other = rw (a, append-nil (e .calls)) few
   uncovered-size e helper few (inr a) other = absurd (other (a .1))

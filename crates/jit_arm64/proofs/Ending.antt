@@ -4,33 +4,34 @@ use native.Mathlib.Omega.{arith}
 use mathlib.Core.Path.{_≡_, refl, ap, _∙_}
 use mathlib.Core.List.{List, [], _∷_, _++_, flatten}
 use lib.ListN.{length, take, length-take}
+use Rattle.rules.specs.Limits.{max-words, max-instrs}
 use Rattle.word.specs.Word.{add}
-use Rattle.a64.specs.declared.A64Emitter.{A64Emitter}
-use Rattle.a64.specs.Parts.{max-words, block-words, emitted-in, emitted-all}
+use Rattle.a64.specs.declared.emitter.A64Emitter.{A64Emitter}
+use Rattle.a64.specs.Parts.{block-words, emitted-in, emitted-all}
 use Rattle.a64.proofs.Emission.{emitted-fits, emitted-all-new}
 use Rattle.a64.specs.Writers.{ret}
-use Rattle.emit_native.specs.Calls.{Call, emit, mov-imm64, groups, words}
+use Rattle.emit_native.specs.Calls.{Call, emit, mov-imm64, groups, words-in, words}
 use Rattle.emit_native.proofs.Size.{size, size-append, size-le}
 use Rattle.jit_arm64.specs.declared.block.Stop.{Stop}
 use Rattle.jit_arm64.specs.declared.block.Stop.the-variants.{Limit, Ended, Helper, Uncovered, NotFetched}
-use Rattle.jit_arm64.specs.Block.{max-steps, Walk, return-calls, next-calls, end-calls}
+use Rattle.jit_arm64.specs.Block.{Walk, return-calls, next-calls, end-calls}
 use Rattle.jit_arm64.specs.Parts.{BlockOf}
 use Rattle.jit_arm64.proofs.Emitting.{small, words-append, words-size}
 use Rattle.jit_arm64.proofs.Walking.{end-room, AtEnd}
 
-module _ (slots : ℕ) where
+module _ (slot-offset : ℕ) where
   -- the count is one word, a PC at most four
-  return-size : (count : ℕ) → count ≤ max-steps → size slots (return-calls count) ≤ 2
+  return-size : (count : ℕ) → count ≤ max-instrs → size slot-offset (return-calls count) ≤ 2
   return-size count few =
       let es : List Call = emit ret ∷ [] in
-      omega (arith, size-append slots (mov-imm64 1 count ∷ []) es, small slots 1 count (omega arith), size-le slots es)
+      omega (arith, size-append slot-offset (mov-imm64 1 count ∷ []) es, small slot-offset 1 count (omega arith), size-le slot-offset es)
 
-  next-size : (pc count : ℕ) → count ≤ max-steps → size slots (next-calls pc count) ≤ 6
+  next-size : (pc count : ℕ) → count ≤ max-instrs → size slot-offset (next-calls pc count) ≤ 6
   next-size pc count few =
       let cs : List Call = mov-imm64 0 pc ∷ [] in
-      omega (arith, size-append slots cs (return-calls count), size-le slots cs, return-size count few)
+      omega (arith, size-append slot-offset cs (return-calls count), size-le slot-offset cs, return-size count few)
 
-  end-size : (why : Stop) (pc count : ℕ) → count ≤ max-steps → size slots (end-calls why pc count) ≤ end-room why
+  end-size : (why : Stop) (pc count : ℕ) → count ≤ max-instrs → size slot-offset (end-calls why pc count) ≤ end-room why
   unfolding end-calls end-room flatten
   end-size Helper pc count few = omega arith
   end-size Ended pc count few = return-size count few
@@ -47,26 +48,26 @@ module _ (slots : ℕ) where
   end-most NotFetched = omega arith
 
   -- the end, emitted by itself
-  pub alone : (why : Stop) (pc count : ℕ) → count ≤ max-steps → (h ws : List ℕ) → h ≡ [] → ws ≡ emitted-all h (groups slots (end-calls why pc count))
-      → ws ≡ words slots (end-calls why pc count)
-  unfolding words
+  pub alone : (why : Stop) (pc count : ℕ) → count ≤ max-instrs → (h ws : List ℕ) → h ≡ [] → ws ≡ emitted-all h (groups slot-offset (end-calls why pc count))
+      → ws ≡ words slot-offset (end-calls why pc count)
+  unfolding words-in
   alone why pc count few h ws new e =
-      e ∙ emitted-all-new h (groups slots (end-calls why pc count)) new (omega (arith, end-size why pc count few, end-most why))
+      e ∙ emitted-all-new h (groups slot-offset (end-calls why pc count)) new (omega (arith, end-size why pc count few, end-most why))
 
 -- and appended to the words of the instructions
-pub closed : {slots start : ℕ} {w : Walk} {l : List ℕ} {len i n pc : ℕ} {why : Stop} {end : List ℕ} (em : A64Emitter)
-    → AtEnd slots start w l len i n why → pc ≡ add start i → end ≡ words slots (end-calls why pc n) → block-words em ≡ emitted-in max-words (take len l) end
-    → BlockOf slots w (record { em = em; count = n; stop = why })
-closed {slots} {start} {w} {l} {len} {i} {n} {pc} {why} em v at is e =
+pub closed : {slot-offset start : ℕ} {w : Walk} {l : List ℕ} {len i n pc : ℕ} {why : Stop} {end : List ℕ} (em : A64Emitter)
+    → AtEnd slot-offset start w l len i n why → pc ≡ add start i → end ≡ words slot-offset (end-calls why pc n) → block-words em ≡ emitted-in max-words (take len l) end
+    → BlockOf slot-offset w (record { em = em; count = n; stop = why })
+closed {slot-offset} {start} {w} {l} {len} {i} {n} {pc} {why} em v at is e =
     let cs = end-calls why pc n in
     let t : cs ≡ end-calls (w .stop) (w .pc) (w .count) = rw (at, v .pc, v .stop, v .count) in
     let long = v .long in
     let room = v .room in
-    let f : length (take len l) + length (words slots cs) ≤ max-words =
-    omega (arith, length-take len l, words-size slots cs, end-size slots why pc n (v .few)) in
-    let g : block-words em ≡ take len l ++ words slots cs = e ∙ ap (emitted-in max-words (take len l)) is ∙ emitted-fits max-words (take len l) (words slots cs) f in
+    let f : length (take len l) + length (words slot-offset cs) ≤ max-words =
+    omega (arith, length-take len l, words-size slot-offset cs, end-size slot-offset why pc n (v .few)) in
+    let g : block-words em ≡ take len l ++ words slot-offset cs = e ∙ ap (emitted-in max-words (take len l)) is ∙ emitted-fits max-words (take len l) (words slot-offset cs) f in
     record {
-      holds = g ∙ rw (v .holds, t, words-append slots (w .calls) (end-calls (w .stop) (w .pc) (w .count))) refl;
+      holds = g ∙ rw (v .holds, t, words-append slot-offset (w .calls) (end-calls (w .stop) (w .pc) (w .count))) refl;
       count = v .count;
       stop = v .stop;
     }

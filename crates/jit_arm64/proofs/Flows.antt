@@ -12,7 +12,7 @@ use Rattle.jit_arm64.specs.declared.block.Stop.{Stop}
 use Rattle.jit_arm64.proofs.block.Stop as S
 use Rattle.jit_arm64.specs.declared.block.Stop.the-variants.{Limit, Ended, Helper, Uncovered, NotFetched}
 use Rattle.jit_arm64.specs.Block.{next-calls, end-calls}
-use Rattle.jit_arm64.specs.Translate.{neither}
+use Rattle.jit_arm64.specs.Parts.{neither}
 
 -- neither None nor Terminate
 pub goes-on : (f : EmitFlow) → OneOf (0 ∷ 1 ∷ []) (tagOf F.the-type f) → OneOf (0 ∷ 2 ∷ []) (tagOf F.the-type f) → f ≡ Continue

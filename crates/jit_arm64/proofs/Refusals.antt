@@ -5,16 +5,17 @@ use mathlib.Core.Path.{_≡_, refl, ap, _∙_}
 use mathlib.Core.Bool.{Bool, true, false, cond, _||_}
 use mathlib.Core.List.{List}
 use mathlib.Core.Option.{Option, none, some}
-use lib.Dec.{eqb, ltb}
-use borrow.Author.Tests.{le-ltb, eqb-true, ne-eqb}
+use lib.Dec.{eqb}
+use borrow.Author.Tests.{eqb-true, ne-eqb}
 use Rattle.word.specs.Word.{add}
 use Rattle.emit_native.specs.declared.Host.{Host}
 use Rattle.emit_native.specs.declared.EmitFlow.{EmitFlow}
 use Rattle.emit_native.specs.declared.EmitFlow.the-variants.{Continue, Terminate, None}
 use Rattle.emit_native.specs.Calls.{Call, Emission}
 use Rattle.emit_native.proofs.Size.{by}
-use Rattle.jit_arm64.specs.Block.{Walk, fetch, size-of, helped, step, instr-walk, walk, whole-walk}
-use Rattle.jit_arm64.specs.Translate.{is-missing, neither, is-uncovered}
+use Rattle.jit_arm64.specs.Block.{Walk, fetch, size-of, helped, step, instr-walk, walk, whole-walk, block-of, compile-native-block}
+use Rattle.jit_arm64.specs.Translate.{is-missing}
+use Rattle.jit_arm64.specs.Parts.{neither, is-uncovered}
 
 -- the walk never counts less than it began with
 helped-count : (f : EmitFlow) (cs : List Call) (k pc : ℕ) → k ≤ helped f cs k pc .count
@@ -40,61 +41,48 @@ walk-count h guest start zero k i = omega arith
 walk-count h guest start (suc left) k i = instr-count h _ start k i (walk h guest start left) (walk-count h guest start left)
 
 -- nothing is counted where the first instruction is missing or not covered
-helped-first : (f : EmitFlow) (cs : List Call) (pc : ℕ) → ltb (helped f cs 0 pc .count) 1 ≡ neither None f
+helped-first : (f : EmitFlow) (cs : List Call) (pc : ℕ) → eqb (helped f cs 0 pc .count) 0 ≡ neither None f
 unfolding helped neither
 helped-first Continue cs pc = refl
 helped-first Terminate cs pc = refl
 helped-first None cs pc = refl
 
 step-first : (f : EmitFlow) (e helper : Emission) (n start : ℕ) (rest : ℕ → ℕ → Walk) → ((m j : ℕ) → m ≤ rest m j .count)
-    → ltb (step f e helper n start 0 0 rest .count) 1 ≡ neither f (helper .flow)
+    → eqb (step f e helper n start 0 0 rest .count) 0 ≡ neither f (helper .flow)
 unfolding step neither
-step-first Continue e helper n start rest up = le-ltb (rest 1 (0 + n) .count) 1 (up 1 (0 + n))
+step-first Continue e helper n start rest up = ne-eqb (rest 1 (0 + n) .count) 0 (λ q. omega (arith, up 1 (0 + n), q))
 step-first Terminate e helper n start rest up = refl
 step-first None e helper n start rest up = helped-first (helper .flow) _ _
 
 instr-first : (h : Host) (f : Option ℕ) (start : ℕ) (rest : ℕ → ℕ → Walk) → ((m j : ℕ) → m ≤ rest m j .count)
-    → ltb (instr-walk h f start 0 0 rest .count) 1 ≡ (is-missing f || is-uncovered h (add start 0) f)
+    → eqb (instr-walk h f start 0 0 rest .count) 0 ≡ (is-missing f || is-uncovered h (add start 0) f)
 unfolding instr-walk is-missing is-uncovered
 instr-first h none start rest up = refl
 instr-first h (some instr) start rest up = step-first _ _ _ (size-of instr) start rest up
-
-abbrev pub no-block : Option Walk → Bool
-no-block none = true
-no-block (some w) = false
-
-test : (b : Bool) (w : Walk) → no-block (cond b none (some w)) ≡ b
-test true w = refl
-test false w = refl
-
--- no block where no instruction was emitted
-unfoldable pub compile-native-block : Host → List ℕ → ℕ → ℕ → Option Walk
-compile-native-block h guest pc limit =
-    cond (ltb ((whole-walk h guest pc limit) .count) 1) none (some (whole-walk h guest pc limit))
 
 -- what is said of the first instruction
 abbrev pub first : Host → List ℕ → ℕ → Bool
 first h guest pc = is-missing (fetch pc guest 0) || is-uncovered h pc (fetch pc guest 0)
 
-counted : (h : Host) (guest : List ℕ) (pc n : ℕ) → ltb (walk h guest pc (suc n) 0 0 .count) 1 ≡ first h guest (add pc 0)
+counted : (h : Host) (guest : List ℕ) (pc n : ℕ) → eqb (walk h guest pc (suc n) 0 0 .count) 0 ≡ first h guest (add pc 0)
 unfolding walk
 counted h guest pc n = instr-first h _ pc (walk h guest pc n) (walk-count h guest pc n)
 
-none-counted : (h : Host) (guest : List ℕ) (pc : ℕ) → ltb ((walk h guest pc 0 0 0) .count) 1 ≡ true
+none-counted : (h : Host) (guest : List ℕ) (pc : ℕ) → eqb ((walk h guest pc 0 0 0) .count) 0 ≡ true
 unfolding walk
 none-counted h guest pc = refl
 
 -- the limit is 0, or the first instruction is refused
-by-first : (h : Host) (guest : List ℕ) (pc limit : ℕ)
-    → no-block (compile-native-block h guest pc limit) ≡ (eqb limit 0 || first h guest (add pc 0))
-unfolding compile-native-block whole-walk
-by-first h guest pc zero =
-    let e : min 0 64 ≡ 0 = omega arith in
-    rw e (test _ (walk h guest pc 0 0 0) ∙ none-counted h guest pc)
-by-first h guest pc (suc n) =
-    let e : min (suc n) 64 ≡ suc (min n 63) = omega arith in
+by-first : (most : ℕ) (h : Host) (guest : List ℕ) (pc limit : ℕ)
+    → eqb (whole-walk (suc most) h guest pc limit .count) 0 ≡ (eqb limit 0 || first h guest (add pc 0))
+unfolding whole-walk
+by-first most h guest pc zero =
+    let e : min 0 (suc most) ≡ 0 = omega arith in
+    rw e (none-counted h guest pc)
+by-first most h guest pc (suc n) =
+    let e : min (suc n) (suc most) ≡ suc (min n most) = omega arith in
     let z : eqb (suc n) 0 ≡ false = ne-eqb (suc n) 0 (λ q. omega arith) in
-    rw (e, z) (test _ (walk h guest pc (suc (min n 63)) 0 0) ∙ counted h guest pc (min n 63))
+    rw (e, z) (counted h guest pc (min n most))
 
 -- an odd PC is not fetched
 odd-missing : (pc : ℕ) (guest : List ℕ) → eqb (pc % 2) 1 ≡ true → is-missing (fetch pc guest 0) ≡ true
@@ -103,11 +91,20 @@ odd-missing pc guest t =
     let e : eqb (pc % 2) 0 ≡ false = rw (eqb-true (pc % 2) 1 t) in
     rw e
 
--- no block exactly where the limit is 0 (refusal 2), the PC is odd (3), the first instruction lacks a halfword (4), or it is neither
--- inline nor a helper's (5)
-pub no-block-is : (h : Host) (guest : List ℕ) (pc limit : ℕ) → pc < 2 ^ 64
-    → no-block (compile-native-block h guest pc limit) ≡ (eqb limit 0 || (eqb (pc % 2) 1 || first h guest pc))
-no-block-is h guest pc limit l =
+-- the limit is 0 (refusal 2), the PC is odd (3), the first instruction lacks a halfword (4), or it is neither inline nor a helper's (5)
+abbrev pub refuses : Host → List ℕ → ℕ → ℕ → Bool
+refuses h guest pc limit = eqb limit 0 || (eqb (pc % 2) 1 || first h guest pc)
+
+none-emitted : (most : ℕ) (h : Host) (guest : List ℕ) (pc limit : ℕ) → pc < 2 ^ 64
+    → eqb (whole-walk (suc most) h guest pc limit .count) 0 ≡ refuses h guest pc limit
+none-emitted most h guest pc limit l =
     let e : add pc 0 ≡ pc = omega arith in
     let o : first h guest pc ≡ (eqb (pc % 2) 1 || first h guest pc) = by (eqb (pc % 2) 1) (λ t. rw (t, odd-missing pc guest t)) (λ t. rw t) in
-    by-first h guest pc limit ∙ ap (λ (b : Bool). eqb limit 0 || b) (ap (first h guest) e ∙ o)
+    by-first most h guest pc limit ∙ ap (λ (b : Bool). eqb limit 0 || b) (ap (first h guest) e ∙ o)
+
+-- no block exactly where one of them applies
+pub no-block-is : (most : ℕ) (h : Host) (guest : List ℕ) (pc limit : ℕ) → pc < 2 ^ 64
+    → compile-native-block (suc most) h guest pc limit
+    ≡ cond (refuses h guest pc limit) none (some (block-of h (whole-walk (suc most) h guest pc limit)))
+unfolding compile-native-block
+no-block-is most h guest pc limit l = rw (none-emitted most h guest pc limit l)

@@ -4,11 +4,11 @@ use mathlib.Core.Path.{_≡_, refl}
 use mathlib.Core.Bool.{false}
 use mathlib.Core.List.{List, [], _∷_, _++_, map, flatten}
 use lib.ListN.{length, replicate}
-use Rattle.a64.specs.Emitter.{bytes, constant, upper}
+use Rattle.a64.specs.Emitter.{bytes}
+use Rattle.a64.specs.Writers as A
 use Rattle.le.specs.Le as L
 use Rattle.word.specs.Word as W
 use Rattle.emit_native.specs.declared.Host.{Host}
-use Rattle.jit_arm64.specs.declared.Answer.{Answer}
 use Rattle.jit_arm64.specs.Translate as T
 use Rattle.jit_arm64.specs.Block as B
 use Rattle.emit_native.specs.Calls as C
@@ -17,7 +17,7 @@ use Rattle.emit_native.specs.Instr16 as I
 use Rattle.emit_native.specs.TermHelper as H
 
 host : Host
-host = record { slots = 0; memory = 0x10000; exec32 = 0x20000; exec16 = 0x30000; ebreak = false }
+host = record { «slot_offset» = 0; «memory_helper» = 0x10000; helper32 = 0x20000; helper16 = 0x30000; «ignore_ebreak» = false }
 
 -- the guest bytes, the limit, the PC; the words, the refusal and the count found
 record Row : Type 0 where
@@ -54,29 +54,19 @@ rows =
     ∷ row (nops 65) 65 0x1000 (0xD2821000 ∷ 0xD2800801 ∷ 0xD65F03C0 ∷ []) 64
     ∷ []
 
--- what is found of a row, with room for 8 words: the answer, and the output bytes
-record Found : Type 0 where
-  answer : Answer
-  output : List ℕ
-
+-- with room for 8 words
 room : List ℕ
 room = replicate 32 0xEE
 
-found : Row → Found
-found r =
-    record {
-      answer = T.translate host (r .guest) (r .pc) (r .limit) room;
-      output = T.output-after host (r .guest) (r .pc) (r .limit) room;
-    }
+found : Row → T.Result
+found r = T.translate host (r .guest) (r .pc) (r .limit) room
 
 -- what the paper says
-said : Row → Found
+said : Row → T.Result
 said r =
-    record {
-      answer = record { refusal = r .refusal; length = 4 * length (r .words); count = r .count; helper = 0 };
-      output = bytes (r .words) ++ replicate (32 - 4 * length (r .words)) 0xEE;
-    }
+    T.result (record { refusal = r .refusal; length = 4 * length (r .words); count = r .count; helper = 0 })
+    (bytes (r .words) ++ replicate (32 - 4 * length (r .words)) 0xEE)
 
 all-rows : map found rows ≡ map said rows
-unfolding rows row refusing nops room found said host T.is-missing T.neither T.is-uncovered T.block-bytes T.refusal T.by-helper T.accepted T.translate T.output-after B.fetch-upper B.fetch B.emit-native B.emit-term-helper B.helped B.step B.instr-walk B.walk B.end-calls B.whole-walk C.words C.store-rd D.sign-extend D.imm-ci D.shamt D.imm-addi4spn D.imm-addi16sp D.imm-cj D.imm-cb I.addi4spn I.quadrant-0 I.c-addi I.c-addiw I.c-li I.c-addi16sp I.c-lui I.c-srli I.c-srai I.c-andi I.c-alu I.c-group I.c-j I.c-branch-on I.c-branch I.c-addi16sp-lui I.quadrant-1 I.c-slli I.c-jr I.c-mv I.c-ebreak I.c-jalr I.c-add I.c-jump-move-add I.quadrant-2 I.emit-native-instr16 H.supports H.emit-native-term-helper16 constant upper L.number L.load W.asr flatten
+unfolding rows row refusing nops room found said host T.is-missing T.by-helper T.no-block T.of-block T.translate B.fetch-upper B.fetch B.emit-native B.emit-term-helper B.helped B.step B.instr-walk B.walk B.end-calls B.whole-walk B.compile-native-block C.words-in C.store-rd D.sign-extend D.imm-ci D.shamt D.imm-addi4spn D.imm-addi16sp D.imm-cj D.imm-cb I.addi4spn I.quadrant-0 I.c-addi I.c-addiw I.c-li I.c-addi16sp I.c-lui I.c-srli I.c-srai I.c-andi I.c-alu I.c-group I.c-j I.c-branch-on I.c-branch I.c-addi16sp-lui I.quadrant-1 I.c-slli I.c-jr I.c-mv I.c-ebreak I.c-jalr I.c-add I.c-jump-move-add I.quadrant-2 I.emit-native-instr16 H.supports H.emit-native-term-helper16 A.movk A.mov-imm64 L.number L.load W.asr flatten
 all-rows = refl

@@ -4,20 +4,21 @@ use native.Mathlib.Omega.{arith}
 use mathlib.Core.Path.{_≡_, refl, sym, ap, _∙_}
 use mathlib.Core.List.{List, [], _++_, append-assoc, append-nil, flatten}
 use lib.ListN.{length, take}
+use Rattle.rules.specs.Limits.{inline-words, instr-words, max-words, max-instrs}
 use Rattle.word.specs.Word.{add}
-use Rattle.a64.specs.Parts.{max-words, held, Added}
+use Rattle.a64.specs.Parts.{held, Added}
 use Rattle.emit_native.specs.declared.EmitFlow.{EmitFlow}
 use Rattle.emit_native.specs.declared.EmitFlow.the-variants.{Continue, Terminate, None}
 use Rattle.emit_native.specs.declared.Emitted.{Emitted}
 use Rattle.emit_native.specs.declared.Host.{Host}
-use Rattle.emit_native.specs.Calls.{Call, words, Emission}
+use Rattle.emit_native.specs.Calls.{Call, words-in, words, Emission}
 use Rattle.emit_native.proofs.Size.{by}
 use Rattle.fetch_window.specs.Parts.{index}
 use Rattle.fetch_window.proofs.Reading.{index-add}
 use Rattle.jit_arm64.specs.declared.fetch.Fetched.{Fetched}
 use Rattle.jit_arm64.specs.declared.block.Stop.{Stop}
 use Rattle.jit_arm64.specs.declared.block.Stop.the-variants.{Limit, Ended, Helper, Uncovered, NotFetched}
-use Rattle.jit_arm64.specs.Block.{max-steps, is-32, size-of, emit-native, emit-term-helper, fetch, Walk, walked, in-front, helped, step, instr-walk, walk}
+use Rattle.jit_arm64.specs.Block.{is-32, size-of, emit-native, emit-term-helper, fetch, Walk, walked, in-front, helped, step, instr-walk, walk}
 use Rattle.jit_arm64.specs.Parts.{FetchedOf, Compiled}
 use Rattle.jit_arm64.proofs.Emitting.{Appended, put, words-append, words-size, Apart, native-size, native-apart, helped-size, uncovered-size}
 use Rattle.jit_arm64.proofs.Fetching.{is-none, is-some}
@@ -34,25 +35,25 @@ end-room NotFetched = 6
 pub record Walking (h : Host) (guest : List ℕ) (start limit : ℕ) (l : List ℕ) (len i n : ℕ) : Type 0 where
   pub calls : List Call
   pub long : length l ≡ max-words
-  pub holds : take len l ≡ words (h .slots) calls
+  pub holds : take len l ≡ words (h .«slot_offset») calls
   pub fits : start < 2 ^ 64
   pub upto : n ≤ limit
   pub near : i ≤ 4 * n
-  pub room : len ≤ 29 * n
+  pub room : len ≤ inline-words * n
   pub same : in-front calls (walk h guest start (limit - n) n i) ≡ walk h guest start limit 0 0
 
 -- len words of l are those of the walk w, which stopped after n instructions, at index i
-pub record AtEnd (slots start : ℕ) (w : Walk) (l : List ℕ) (len i n : ℕ) (why : Stop) : Type 0 where
-  pub holds : take len l ≡ words slots (w .calls)
+pub record AtEnd (slot-offset start : ℕ) (w : Walk) (l : List ℕ) (len i n : ℕ) (why : Stop) : Type 0 where
+  pub holds : take len l ≡ words slot-offset (w .calls)
   pub count : n ≡ w .count
   pub stop : why ≡ w .stop
   pub pc : add start i ≡ w .pc
-  pub few : n ≤ max-steps
+  pub few : n ≤ max-instrs
   pub long : length l ≡ max-words
   pub room : len + end-room why ≤ max-words
 
 pub begin : (h : Host) (guest : List ℕ) (start limit : ℕ) (l : List ℕ) → length l ≡ max-words → start < 2 ^ 64 → Walking h guest start limit l 0 0 0
-unfolding words flatten
+unfolding words-in flatten
 begin h guest start limit l long fits =
     let q : limit - 0 ≡ limit = omega arith in
     record { calls = []; long = long; holds = refl; fits = fits; upto = omega arith; near = omega arith; room = omega arith; same = rw q }
@@ -64,20 +65,20 @@ not-helped Continue cs n pc other = refl
 not-helped None cs n pc other = refl
 not-helped Terminate cs n pc other = absurd (other refl)
 
-module _ {h : Host} {guest : List ℕ} {start limit : ℕ} {l : List ℕ} {len i n : ℕ} (small : limit ≤ max-steps)
+module _ {h : Host} {guest : List ℕ} {start limit : ℕ} {l : List ℕ} {len i n : ℕ} (small : limit ≤ max-instrs)
     (v : Walking h guest start limit l len i n) where
   abbrev Done : List ℕ → ℕ → ℕ → ℕ → Stop → Type 0
-  Done l′ len′ i′ n′ why = AtEnd (h .slots) start (walk h guest start limit 0 0) l′ len′ i′ n′ why
+  Done l′ len′ i′ n′ why = AtEnd (h .«slot_offset») start (walk h guest start limit 0 0) l′ len′ i′ n′ why
 
   -- the walk ends with the calls cs
   ended : (cs : List Call) {l′ : List ℕ} {len′ : ℕ} (i′ n′ : ℕ) (why : Stop)
       → in-front (v .calls) (walked cs n′ why (add start i′)) ≡ walk h guest start limit 0 0
-      → take len′ l′ ≡ words (h .slots) (v .calls ++ cs) → n′ ≤ max-steps → length l′ ≡ max-words → len′ + end-room why ≤ max-words → Done l′ len′ i′ n′ why
+      → take len′ l′ ≡ words (h .«slot_offset») (v .calls ++ cs) → n′ ≤ max-instrs → length l′ ≡ max-words → len′ + end-room why ≤ max-words → Done l′ len′ i′ n′ why
   ended cs i′ n′ why e holds few long room =
       rw (← e) (record { holds = holds; count = refl; stop = refl; pc = refl; few = few; long = long; room = room })
 
-  bare : take len l ≡ words (h .slots) (v .calls ++ [])
-  bare = v .holds ∙ ap (words (h .slots)) (sym (append-nil (v .calls)))
+  bare : take len l ≡ words (h .«slot_offset») (v .calls ++ [])
+  bare = v .holds ∙ ap (words (h .«slot_offset»)) (sym (append-nil (v .calls)))
 
   pub at-limit : n ≡ limit → Done l len i n Limit
   unfolding walk end-room
@@ -127,20 +128,20 @@ module _ {h : Host} {guest : List ℕ} {start limit : ℕ} {l : List ℕ} {len i
       next = omega arith
 
       -- its words cs, appended
-      module _ (cs : List Call) {l′ : List ℕ} {len′ : ℕ} {ws : List ℕ} (alone : ws ≡ words (h .slots) cs) (added : Added max-words l len l′ len′ ws) where
-        appended : length (words (h .slots) cs) ≤ 30 → Appended l len l′ len′ (words (h .slots) cs)
+      module _ (cs : List Call) {l′ : List ℕ} {len′ : ℕ} {ws : List ℕ} (alone : ws ≡ words (h .«slot_offset») cs) (added : Added max-words l len l′ len′ ws) where
+        appended : length (words (h .«slot_offset») cs) ≤ instr-words → Appended l len l′ len′ (words (h .«slot_offset») cs)
         appended few =
             let u = v .upto in
             let m = v .room in
             put (v .long) (omega arith) (rw alone at added)
 
-        more : length (words (h .slots) cs) ≤ 30 → take len′ l′ ≡ words (h .slots) (v .calls ++ cs)
-        more few = appended few .holds ∙ ap (λ (us : List ℕ). us ++ words (h .slots) cs) (v .holds) ∙ sym (words-append (h .slots) (v .calls) cs)
+        more : length (words (h .«slot_offset») cs) ≤ instr-words → take len′ l′ ≡ words (h .«slot_offset») (v .calls ++ cs)
+        more few = appended few .holds ∙ ap (λ (us : List ℕ). us ++ words (h .«slot_offset») cs) (v .holds) ∙ sym (words-append (h .«slot_offset») (v .calls) cs)
 
       -- inline words
-      module _ {out : Emitted} (c : Compiled (h .slots) (e .calls) (e .flow) out) {l′ : List ℕ} {len′ : ℕ} (added : Added max-words l len l′ len′ (held (out .em))) where
-        few : length (words (h .slots) (e .calls)) ≤ 29
-        few = omega (arith, words-size (h .slots) (e .calls), native-size (h .slots) h pc (r .instr))
+      module _ {out : Emitted} (c : Compiled (h .«slot_offset») (e .calls) (e .flow) out) {l′ : List ℕ} {len′ : ℕ} (added : Added max-words l len l′ len′ (held (out .em))) where
+        few : length (words (h .«slot_offset») (e .calls)) ≤ inline-words
+        few = omega (arith, words-size (h .«slot_offset») (e .calls), native-size (h .«slot_offset») h pc (r .instr))
 
         pub on : out .flow ≡ Continue → Walking h guest start limit l′ len′ (i + r .size) (n + 1)
         unfolding step
@@ -175,24 +176,24 @@ module _ {h : Host} {guest : List ℕ} {start limit : ℕ} {l : List ℕ} {len i
             (omega arith) (a .long) (omega arith)
 
       -- what the inline emitter left, and the helper's words
-      module _ {out left : Emitted} (i₀ : Compiled (h .slots) (e .calls) (e .flow) left) (none : left .flow ≡ None)
-          (c : Compiled (h .slots) (e .calls ++ helper .calls) (helper .flow) out) {l′ : List ℕ} {len′ : ℕ} (added : Added max-words l len l′ len′ (held (out .em))) where
+      module _ {out left : Emitted} (i₀ : Compiled (h .«slot_offset») (e .calls) (e .flow) left) (none : left .flow ≡ None)
+          (c : Compiled (h .«slot_offset») (e .calls ++ helper .calls) (helper .flow) out) {l′ : List ℕ} {len′ : ℕ} (added : Added max-words l len l′ len′ (held (out .em))) where
         abbrev both : List Call
         both = e .calls ++ helper .calls
 
         not-inline : e .flow ≡ None
         not-inline = sym (i₀ .flow) ∙ none
 
-        apart : Apart (h .slots) e helper
-        apart = let u = v .upto in native-apart (h .slots) h pc (r .instr) n (omega arith)
+        apart : Apart (h .«slot_offset») e helper
+        apart = let u = v .upto in native-apart (h .«slot_offset») h pc (r .instr) n (omega arith)
 
         pub by-helper : out .flow ≡ Terminate → Done l′ len′ i (n + 1) Helper
         unfolding step helped end-room
         by-helper t =
             let k = v .upto in
             let m = v .room in
-            let w : length (words (h .slots) both) ≤ 30 =
-            omega (arith, words-size (h .slots) both, helped-size (h .slots) e helper (native-size (h .slots) h pc (r .instr)) apart) in
+            let w : length (words (h .«slot_offset») both) ≤ instr-words =
+            omega (arith, words-size (h .«slot_offset») both, helped-size (h .«slot_offset») e helper (native-size (h .«slot_offset») h pc (r .instr)) apart) in
             let a = appended both (c .holds) added w in
             let p = a .len in
             ended both i (n + 1) Helper (rw next (rw (sym (c .flow) ∙ t) at (stepped None not-inline))) (more both (c .holds) added w) (omega arith) (a .long) (omega arith)
@@ -203,8 +204,8 @@ module _ {h : Host} {guest : List ℕ} {start limit : ℕ} {l : List ℕ} {len i
             let k = v .upto in
             let m = v .room in
             let other : helper .flow ≡ Terminate → ⊥ = λ u. t (c .flow ∙ u) in
-            let w : length (words (h .slots) both) ≤ 29 =
-            omega (arith, words-size (h .slots) both, uncovered-size (h .slots) e helper (native-size (h .slots) h pc (r .instr)) apart other) in
+            let w : length (words (h .«slot_offset») both) ≤ inline-words =
+            omega (arith, words-size (h .«slot_offset») both, uncovered-size (h .«slot_offset») e helper (native-size (h .«slot_offset») h pc (r .instr)) apart other) in
             let a = appended both (c .holds) added (omega arith) in
             let p = a .len in
             ended both i n Uncovered (rw (not-helped (helper .flow) both n (add start i) other) at (stepped None not-inline)) (more both (c .holds) added (omega arith))

@@ -13,15 +13,12 @@ use Rattle.emit_native.specs.declared.EmitFlow.the-variants.{Continue, Terminat
 use Rattle.jit_arm64.specs.declared.block.Stop.{Stop}
 use Rattle.jit_arm64.specs.declared.block.Stop.the-variants.{Limit, Ended, Helper, Uncovered, NotFetched}
 use Rattle.a64.specs.Writers.{ret}
-use Rattle.emit_native.specs.Calls.{Call, emit, mov-imm64, Emission}
+use Rattle.a64.specs.Emitter.{bytes}
+use Rattle.emit_native.specs.Calls.{Call, emit, mov-imm64, words, Emission}
 use Rattle.isa.specs.Decode.{decode32}
 use Rattle.emit_native.specs.Instr16.{emit-native-instr16}
 use Rattle.emit_native.specs.Instr32.{emit-native-instr}
 use Rattle.emit_native.specs.TermHelper.{emit-native-term-helper16, emit-native-term-helper32}
-
--- `max_steps.min(64)`
-abbrev pub max-steps : ℕ
-max-steps = 64
 
 -- ---- fetching: the guest bytes hold the halfword at index i where two bytes are left there; i is the PC less the start PC
 
@@ -53,7 +50,7 @@ size-of instr = cond (is-32 instr) 4 2
 
 -- the inline emitter for its width, and the helper's
 unfoldable pub emit-native : Host → ℕ → ℕ → Emission
-emit-native h pc instr = cond (is-32 instr) (emit-native-instr pc instr (decode32 instr)) (emit-native-instr16 (h .ebreak) pc instr)
+emit-native h pc instr = cond (is-32 instr) (emit-native-instr pc instr (decode32 instr)) (emit-native-instr16 (h .«ignore_ebreak») pc instr)
 
 unfoldable pub emit-term-helper : Host → ℕ → ℕ → ℕ → Emission
 emit-term-helper h pc instr emitted =
@@ -119,5 +116,21 @@ end-calls NotFetched pc count = next-calls pc count
 abbrev pub block-calls : Walk → List Call
 block-calls w = w .calls ++ end-calls (w .stop) (w .pc) (w .count)
 
-unfoldable pub whole-walk : Host → List ℕ → ℕ → ℕ → Walk
-whole-walk h guest pc limit = walk h guest pc (min limit max-steps) 0 0
+-- most: how many instructions a block may have. The Rust's is 64, `max_steps.min(64)`
+unfoldable pub whole-walk : ℕ → Host → List ℕ → ℕ → ℕ → Walk
+whole-walk most h guest pc limit = walk h guest pc (min limit most) 0 0
+
+-- the code, its count of instructions, and why the loop stopped
+pub record Block : Type 0 where
+  pub code : List ℕ
+  pub count : ℕ
+  pub stop : Stop
+
+abbrev pub block-of : Host → Walk → Block
+block-of h w = record { code = bytes (words (h .«slot_offset») (block-calls w)); count = w .count; stop = w .stop }
+
+-- no block where nothing was emitted
+unfoldable pub compile-native-block : ℕ → Host → List ℕ → ℕ → ℕ → Option Block
+compile-native-block most h guest pc limit =
+    let w = whole-walk most h guest pc limit in
+    cond (eqb (w .count) 0) none (some (block-of h w))

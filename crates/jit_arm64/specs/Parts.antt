@@ -1,15 +1,20 @@
 -- What the functions of this crate promise one another; no operation's contract reaches it.
 use Prim.Native.Nat.{ℕ, _%_, _^_, _<_}
+use mathlib.Core.Bool.{Bool, true, false, cond}
 use mathlib.Core.List.{List}
 use mathlib.Core.Option.{Option, none, some}
 use mathlib.Core.Path.{_≡_}
 use Rattle.a64.specs.Parts.{held, block-words}
+use Rattle.rules.specs.Refusals as Refusals
+use Rattle.emit_native.specs.declared.Host.{Host}
 use Rattle.emit_native.specs.declared.EmitFlow.{EmitFlow}
+use Rattle.emit_native.specs.declared.EmitFlow.the-variants.{Continue, Terminate, None}
 use Rattle.emit_native.specs.declared.Emitted.{Emitted}
 use Rattle.emit_native.specs.Calls.{Call, words}
 use Rattle.jit_arm64.specs.declared.fetch.Fetched.{Fetched}
 use Rattle.jit_arm64.specs.declared.block.NativeBlock.{NativeBlock}
-use Rattle.jit_arm64.specs.Block.{size-of, Walk, block-calls}
+use Rattle.jit_arm64.specs.Block.{fetch, size-of, emit-native, emit-term-helper, Walk, block-calls}
+use Rattle.jit_arm64.specs.Translate.{is-missing}
 
 -- what was fetched, and its length in bytes; 0 for both where a halfword is missing
 unfoldable pub fetched : Option ℕ → Fetched
@@ -25,12 +30,31 @@ pub record FetchedOf (f : Option ℕ) (r : Fetched) : Type 0 where
   pub narrow : Narrow (r .instr)
 
 -- an instruction's words, emitted by themselves, and the flow
-pub record Compiled (slots : ℕ) (cs : List Call) (f : EmitFlow) (r : Emitted) : Type 0 where
-  pub holds : held (r .em) ≡ words slots cs
+pub record Compiled (slot-offset : ℕ) (cs : List Call) (f : EmitFlow) (r : Emitted) : Type 0 where
+  pub holds : held (r .em) ≡ words slot-offset cs
   pub flow : r .flow ≡ f
 
 -- the block's words
-pub record BlockOf (slots : ℕ) (w : Walk) (r : NativeBlock) : Type 0 where
-  pub holds : block-words (r .em) ≡ words slots (block-calls w)
+pub record BlockOf (slot-offset : ℕ) (w : Walk) (r : NativeBlock) : Type 0 where
+  pub holds : block-words (r .em) ≡ words slot-offset (block-calls w)
   pub count : r .count ≡ w .count
   pub stop : r .stop ≡ w .stop
+
+-- ---- the first instruction
+
+-- neither inline nor a helper's, by the flows of the two emitters
+unfoldable pub neither : EmitFlow → EmitFlow → Bool
+neither Continue f = false
+neither Terminate f = false
+neither None Terminate = false
+neither None Continue = true
+neither None None = true
+
+unfoldable pub is-uncovered : Host → ℕ → Option ℕ → Bool
+is-uncovered h pc none = false
+is-uncovered h pc (some instr) = neither ((emit-native h pc instr) .flow) ((emit-term-helper h pc instr 0) .flow)
+
+-- its refusal, or 0
+abbrev pub first-refusal : Host → List ℕ → ℕ → ℕ
+first-refusal h guest pc =
+    cond (is-missing (fetch pc guest 0)) Refusals.not-fetched (cond (is-uncovered h pc (fetch pc guest 0)) Refusals.not-covered Refusals.accepted)

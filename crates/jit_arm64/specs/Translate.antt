@@ -1,66 +1,29 @@
--- Operation Translate of document 01: its refusals in their order, the answer's numbers and the output bytes.
+-- Operation Translate of document 01: its refusals in their order, the answer and the output bytes.
 use Prim.Native.Nat.{ℕ, _%_}
 use mathlib.Core.Bool.{Bool, true, false, cond, not, _||_}
 use mathlib.Core.List.{List, _++_}
 use mathlib.Core.Option.{Option, none, some}
 use lib.ListN.{length, drop}
 use lib.Dec.{eqb, ltb}
-use Rattle.a64.specs.Emitter.{bytes}
+use Rattle.rules.specs.Limits.{max-instrs, max-slot-offset}
+use Rattle.rules.specs.Refusals as Refusals
 use Rattle.emit_native.specs.declared.Host.{Host}
-use Rattle.emit_native.specs.declared.EmitFlow.{EmitFlow}
-use Rattle.emit_native.specs.declared.EmitFlow.the-variants.{Continue, Terminate, None}
 use Rattle.jit_arm64.specs.declared.Answer.{Answer}
 use Rattle.jit_arm64.specs.declared.block.Stop.{Stop}
 use Rattle.jit_arm64.specs.declared.block.Stop.the-variants.{Limit, Ended, Helper, Uncovered, NotFetched}
-use Rattle.emit_native.specs.Calls.{words}
-use Rattle.jit_arm64.specs.Block.{fetch, emit-native, emit-term-helper, block-calls, whole-walk}
+use Rattle.jit_arm64.specs.Block.{fetch, Block, compile-native-block}
 
--- what the caller gives: the slot offset, the three helpers' addresses, and whether C.EBREAK is ignored
-abbrev pub host : ℕ → ℕ → ℕ → ℕ → Bool → Host
-host slots memory exec32 exec16 e = record { slots = slots; memory = memory; exec32 = exec32; exec16 = exec16; ebreak = e }
+-- the answer, and the output bytes then
+pub record Result : Type 0 where
+  pub answer : Answer
+  pub output : List ℕ
 
--- the greatest slot offset
-abbrev pub max-slots : ℕ
-max-slots = 32512
+abbrev pub result : Answer → List ℕ → Result
+result a output = record { answer = a; output = output }
 
--- refusal 1: a slot offset that is no multiple of 8 or is above 32,512
-abbrev pub bad-slots : ℕ → Bool
-bad-slots slots = not (eqb (slots % 8) 0) || ltb max-slots slots
-
--- refusal 4: the first instruction lacks a halfword
-unfoldable pub is-missing : Option ℕ → Bool
-is-missing none = true
-is-missing (some instr) = false
-
--- refusal 5: it is neither inline nor a helper's, by the flows of the two emitters
-unfoldable pub neither : EmitFlow → EmitFlow → Bool
-neither Continue f = false
-neither Terminate f = false
-neither None Terminate = false
-neither None Continue = true
-neither None None = true
-
-unfoldable pub is-uncovered : Host → ℕ → Option ℕ → Bool
-is-uncovered h pc none = false
-is-uncovered h pc (some instr) = neither ((emit-native h pc instr) .flow) ((emit-term-helper h pc instr 0) .flow)
-
--- the bytes of the block
-unfoldable pub block-bytes : Host → List ℕ → ℕ → ℕ → List ℕ
-block-bytes h guest pc limit = bytes (words (h .slots) (block-calls (whole-walk h guest pc limit)))
-
--- the lowest refusal that applies, or 0
-unfoldable pub refusal : Host → List ℕ → ℕ → ℕ → ℕ → ℕ
-refusal h guest pc limit room =
-    cond (bad-slots (h .slots)) 1
-    (cond (eqb limit 0) 2
-    (cond (eqb (pc % 2) 1) 3
-    (cond (is-missing (fetch pc guest 0)) 4
-    (cond (is-uncovered h pc (fetch pc guest 0)) 5
-    (cond (ltb room (length (block-bytes h guest pc limit))) 6
-    0)))))
-
-abbrev pub refused : ℕ → Answer
-refused n = record { refusal = n; length = 0; count = 0; helper = 0 }
+-- a refusal leaves the output
+abbrev pub refused : ℕ → List ℕ → Result
+refused n output = result (record { refusal = n; length = 0; count = 0; helper = 0 }) output
 
 -- 1 where a helper ended the block
 unfoldable pub by-helper : Stop → ℕ
@@ -70,18 +33,33 @@ by-helper Ended = 0
 by-helper Uncovered = 0
 by-helper NotFetched = 0
 
-unfoldable pub accepted : Host → List ℕ → ℕ → ℕ → Answer
-accepted h guest pc limit =
-    let w = whole-walk h guest pc limit in
-    record { refusal = 0; length = length (block-bytes h guest pc limit); count = w .count; helper = by-helper (w .stop) }
+-- the block at the front of the output
+abbrev pub accepted : Block → List ℕ → Result
+accepted b output =
+    result (record { refusal = Refusals.accepted; length = length (b .code); count = b .count; helper = by-helper (b .stop) })
+    (b .code ++ drop (length (b .code)) output)
 
-unfoldable pub translate : Host → List ℕ → ℕ → ℕ → List ℕ → Answer
+-- a slot offset that is no multiple of 8 or is above 32,512
+abbrev pub bad-slot-offset : ℕ → Bool
+bad-slot-offset n = not (eqb (n % 8) 0) || ltb max-slot-offset n
+
+unfoldable pub is-missing : Option ℕ → Bool
+is-missing none = true
+is-missing (some instr) = false
+
+-- why there is no block, the lowest that applies: else the first instruction is neither inline nor a helper's
+unfoldable pub no-block : List ℕ → ℕ → ℕ → ℕ
+no-block guest pc limit =
+    cond (eqb limit 0) Refusals.limit-zero
+    (cond (eqb (pc % 2) 1) Refusals.odd-pc
+    (cond (is-missing (fetch pc guest 0)) Refusals.not-fetched
+    Refusals.not-covered))
+
+unfoldable pub of-block : Option Block → ℕ → List ℕ → Result
+of-block none why output = refused why output
+of-block (some b) why output = cond (ltb (length output) (length (b .code))) (refused Refusals.output-short output) (accepted b output)
+
+unfoldable pub translate : Host → List ℕ → ℕ → ℕ → List ℕ → Result
 translate h guest pc limit output =
-    let n = refusal h guest pc limit (length output) in
-    cond (eqb n 0) (accepted h guest pc limit) (refused n)
-
-unfoldable pub output-after : Host → List ℕ → ℕ → ℕ → List ℕ → List ℕ
-output-after h guest pc limit output =
-    cond (eqb (refusal h guest pc limit (length output)) 0)
-    (block-bytes h guest pc limit ++ drop (length (block-bytes h guest pc limit)) output)
-    output
+    cond (bad-slot-offset (h .«slot_offset»)) (refused Refusals.slot-offset output)
+    (of-block (compile-native-block max-instrs h guest pc limit) (no-block guest pc limit) output)

@@ -1,13 +1,12 @@
 // `compile_native_block`: limit, alignment and fetch around the emitters.
 ghost use mathlib.Core.Path.{_≡_};
-ghost use mathlib.Core.Bool.{cond};
 ghost use mathlib.Core.List.{_++_};
 ghost use Prim.Native.Nat.{ℕ, _≤_, min};
+ghost use Rattle.rules.specs.Limits.{max-instrs, max-slot-offset};
 ghost use Rattle.a64.specs.Parts.{held, emitted-all};
 ghost use Rattle.emit_native.specs.Calls as C;
-ghost use Rattle.jit_arm64.specs.Block.{max-steps, fetch, emit-native, emit-term-helper, return-calls, end-calls, whole-walk};
-ghost use Rattle.jit_arm64.specs.Parts.{Narrow, Compiled, BlockOf};
-ghost use Rattle.jit_arm64.specs.Translate.{is-missing, is-uncovered};
+ghost use Rattle.jit_arm64.specs.Block.{emit-native, emit-term-helper, return-calls, end-calls, whole-walk};
+ghost use Rattle.jit_arm64.specs.Parts.{Narrow, Compiled, BlockOf, first-refusal};
 use crate::fetch::fetch;
 use a64::A64Emitter;
 use a64::InstrEmitter;
@@ -17,9 +16,8 @@ use emit_native::Host;
 use emit_native::instr16;
 use emit_native::instr32;
 use emit_native::term_helper;
-
-// `max_steps.min(64)`
-const MAX_STEPS: u32 = 64;
+use rules::MAX_INSTRS;
+use rules::refusals;
 
 // Why the walk over the guest code stopped.
 pub enum Stop {
@@ -39,21 +37,21 @@ pub struct NativeBlock {
 
 // The inline words of an instruction, by its width.
 fn emit_native(host: Host, pc: u64, instr: u32) -> Emitted
-    requires { ⌜ (host .slots ≤ 32512) × Narrow instr ⌝ }
-    ensures { λ r. ⌜ Compiled (host .slots) (emit-native host pc instr .calls) (emit-native host pc instr .flow) r ⌝ }
+    requires { ⌜ (host .«slot_offset» ≤ max-slot-offset) × Narrow instr ⌝ }
+    ensures { λ r. ⌜ Compiled (host .«slot_offset») (emit-native host pc instr .calls) (emit-native host pc instr .flow) r ⌝ }
 {
     if instr % 4 != 3 {
         let low = (instr % 0x1_0000) as u16;
         return instr16::emit_native_instr16(InstrEmitter::new(), host, pc, low);
     }
     let d = isa::decode::decode32(instr);
-    instr32::emit_native_instr(InstrEmitter::new(), host.slots, pc, instr, d)
+    instr32::emit_native_instr(InstrEmitter::new(), host.slot_offset, pc, instr, d)
 }
 
 // The words of a helper's call, after those that the inline emitter left.
 fn emit_term_helper(em: InstrEmitter, host: Host, pc: u64, instr: u32, emitted: u32) -> Emitted
-    requires { ⌜ (host .slots ≤ 32512) × Narrow instr × (emitted ≤ max-steps) × (held em ≡ C.words (host .slots) (emit-native host pc instr .calls)) ⌝ }
-    ensures { λ r. ⌜ Compiled (host .slots) (emit-native host pc instr .calls ++ emit-term-helper host pc instr emitted .calls) (emit-term-helper host pc instr emitted .flow) r ⌝ }
+    requires { ⌜ (host .«slot_offset» ≤ max-slot-offset) × Narrow instr × (emitted ≤ max-instrs) × (held em ≡ C.words (host .«slot_offset») (emit-native host pc instr .calls)) ⌝ }
+    ensures { λ r. ⌜ Compiled (host .«slot_offset») (emit-native host pc instr .calls ++ emit-term-helper host pc instr emitted .calls) (emit-term-helper host pc instr emitted .flow) r ⌝ }
 {
     if instr % 4 != 3 {
         let low = (instr % 0x1_0000) as u16;
@@ -65,12 +63,12 @@ fn emit_term_helper(em: InstrEmitter, host: Host, pc: u64, instr: u32, emitted: 
 
 // Refusal 4 or 5 where the first instruction lacks a halfword or is not covered, and else 0.
 pub fn first_refusal(guest: &[u8], pc: u64, host: Host) -> u32
-    requires { ⌜ host .slots ≤ 32512 ⌝ }
-    ensures { λ r. ⌜ r ≡ cond (is-missing (fetch pc (now (guest .entry)) 0)) 4 (cond (is-uncovered host pc (fetch pc (now (guest .entry)) 0)) 5 0) ⌝ }
+    requires { ⌜ host .«slot_offset» ≤ max-slot-offset ⌝ }
+    ensures { λ r. ⌜ r ≡ first-refusal host (now (guest .entry)) pc ⌝ }
 {
     let found = fetch(guest, pc, pc);
     if found.size == 0 {
-        return 4;
+        return refusals::NOT_FETCHED;
     }
     let out = emit_native(host, pc, found.instr);
     let flow = out.flow;
@@ -81,14 +79,14 @@ pub fn first_refusal(guest: &[u8], pc: u64, host: Host) -> u32
         if let EmitFlow::Terminate = taken {
             return 0;
         }
-        return 5;
+        return refusals::NOT_COVERED;
     }
     0
 }
 
 // The count into X1, RET.
 fn emit_return(em: InstrEmitter, count: u32) -> InstrEmitter
-    ensures { λ r. ⌜ ((slots : ℕ) → held r ≡ emitted-all (held em) (C.groups slots (return-calls count))) ⌝ }
+    ensures { λ r. ⌜ ((slot-offset : ℕ) → held r ≡ emitted-all (held em) (C.groups slot-offset (return-calls count))) ⌝ }
 {
     let em = em.mov_imm64(1, count as u64);
     em.emit(A64Emitter::ret())
@@ -96,8 +94,8 @@ fn emit_return(em: InstrEmitter, count: u32) -> InstrEmitter
 
 // The end of a block, by why the walk stopped: none after a helper's call, and the next PC unless the last instruction set it.
 fn emit_end(stop: Stop, pc: u64, count: u32) -> InstrEmitter
-    requires { ⌜ count ≤ max-steps ⌝ }
-    ensures { λ r. ⌜ ((slots : ℕ) → held r ≡ C.words slots (end-calls stop pc count)) ⌝ }
+    requires { ⌜ count ≤ max-instrs ⌝ }
+    ensures { λ r. ⌜ ((slot-offset : ℕ) → held r ≡ C.words slot-offset (end-calls stop pc count)) ⌝ }
 {
     let em = InstrEmitter::new();
     if let Stop::Helper = stop {
@@ -111,15 +109,15 @@ fn emit_end(stop: Stop, pc: u64, count: u32) -> InstrEmitter
 }
 
 fn clamped(limit: u32) -> u32
-    ensures { λ r. ⌜ r ≡ min limit max-steps ⌝ }
+    ensures { λ r. ⌜ r ≡ min limit max-instrs ⌝ }
 {
-    if limit < MAX_STEPS { limit } else { MAX_STEPS }
+    if limit < MAX_INSTRS { limit } else { MAX_INSTRS }
 }
 
 // The instructions from `start` on, at most `limit` of them: each by itself, its words appended; then the end of the block.
 pub fn compile_native_block(guest: &[u8], start: u64, limit: u32, host: Host) -> NativeBlock
-    requires { ⌜ host .slots ≤ 32512 ⌝ }
-    ensures { λ r. ⌜ BlockOf (host .slots) (whole-walk host (now (guest .entry)) start limit) r ⌝ }
+    requires { ⌜ host .«slot_offset» ≤ max-slot-offset ⌝ }
+    ensures { λ r. ⌜ BlockOf (host .«slot_offset») (whole-walk max-instrs host (now (guest .entry)) start limit) r ⌝ }
 {
     let most = clamped(limit);
     let mut em = A64Emitter::new();

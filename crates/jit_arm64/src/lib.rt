@@ -1,9 +1,10 @@
 // The block translator: RV64 guest blocks in, A64 words out. `compile_native_block` of jit_arm64.rs, and the operation Translate.
 ghost use mathlib.Core.Path.{_≡_};
-ghost use mathlib.Core.Bool.{false};
-ghost use Rattle.jit_arm64.specs.Translate.{host, bad-slots, refused, by-helper, translate, output-after};
+ghost use mathlib.Core.List.{[]};
+ghost use Rattle.jit_arm64.specs.Translate as T;
 use block::Stop;
 use emit_native::Host;
+use rules::refusals;
 
 pub mod block;
 pub mod fetch;
@@ -17,7 +18,7 @@ pub struct Answer {
 }
 
 fn refuse(n: u32) -> Answer
-    ensures { λ r. ⌜ r ≡ refused n ⌝ }
+    ensures { λ r. ⌜ r ≡ T.refused n [] .answer ⌝ }
 {
     Answer {
         refusal: n,
@@ -28,7 +29,7 @@ fn refuse(n: u32) -> Answer
 }
 
 fn by_helper(stop: Stop) -> u32
-    ensures { λ r. ⌜ r ≡ by-helper stop ⌝ }
+    ensures { λ r. ⌜ r ≡ T.by-helper stop ⌝ }
 {
     match stop {
         Stop::Helper => 1,
@@ -39,17 +40,30 @@ fn by_helper(stop: Stop) -> u32
     }
 }
 
-// Translate, for a host whose slot offset is not refused.
-fn translate_for(guest: &[u8], pc: u64, limit: u32, host: Host, output: &mut [u8]) -> Answer
-    requires { ⌜ bad-slots (host .slots) ≡ false ⌝ }
-    ensures { λ r. ⌜ r ≡ translate host (now (guest .entry)) pc limit (now (output .entry)) ⌝ }
-    ensures { λ r. ⌜ now (output .exit) ≡ output-after host (now (guest .entry)) pc limit (now (output .entry)) ⌝ }
+fn bad_slot_offset(n: u64) -> bool
+    ensures { λ r. ⌜ r ≡ T.bad-slot-offset n ⌝ }
 {
+    if n % 8 != 0 {
+        return true;
+    }
+    if rules::MAX_SLOT_OFFSET < n {
+        return true;
+    }
+    false
+}
+
+// Operation Translate of document 01.
+pub fn translate(guest: &[u8], pc: u64, limit: u32, host: Host, output: &mut [u8]) -> Answer
+    ensures { λ r. ⌜ T.result r (now (output .exit)) ≡ T.translate host (now (guest .entry)) pc limit (now (output .entry)) ⌝ }
+{
+    if bad_slot_offset(host.slot_offset) {
+        return refuse(refusals::SLOT_OFFSET);
+    }
     if limit == 0 {
-        return refuse(2);
+        return refuse(refusals::LIMIT_ZERO);
     }
     if pc % 2 == 1 {
-        return refuse(3);
+        return refuse(refusals::ODD_PC);
     }
     let first = block::first_refusal(guest, pc, host);
     if first != 0 {
@@ -61,7 +75,7 @@ fn translate_for(guest: &[u8], pc: u64, limit: u32, host: Host, output: &mut [u8
     let em = found.em;
     let length = em.finish(output);
     if output.len() < length {
-        return refuse(6);
+        return refuse(refusals::OUTPUT_SHORT);
     }
     Answer {
         refusal: 0,
@@ -69,35 +83,4 @@ fn translate_for(guest: &[u8], pc: u64, limit: u32, host: Host, output: &mut [u8
         count,
         helper: by_helper(stop),
     }
-}
-
-// Operation Translate of document 01.
-pub fn translate(
-    guest: &[u8],
-    pc: u64,
-    limit: u32,
-    ignore_ebreak: bool,
-    slot_offset: u64,
-    memory: u64,
-    exec32: u64,
-    exec16: u64,
-    output: &mut [u8],
-) -> Answer
-    ensures { λ r. ⌜ r ≡ translate (host «slot_offset» memory exec32 exec16 «ignore_ebreak») (now (guest .entry)) pc limit (now (output .entry)) ⌝ }
-    ensures { λ r. ⌜ now (output .exit) ≡ output-after (host «slot_offset» memory exec32 exec16 «ignore_ebreak») (now (guest .entry)) pc limit (now (output .entry)) ⌝ }
-{
-    if slot_offset % 8 != 0 {
-        return refuse(1);
-    }
-    if 32512 < slot_offset {
-        return refuse(1);
-    }
-    let host = Host {
-        slots: slot_offset as u16,
-        memory,
-        exec32,
-        exec16,
-        ebreak: ignore_ebreak,
-    };
-    translate_for(guest, pc, limit, host, output)
 }

@@ -11,8 +11,8 @@ use Rattle.jit_arm64.proofs.block.compile_native_block.Statement.{state
 use Rattle.jit_arm64.proofs.block.compile_native_block.Tie as tie
 use Rattle.jit_arm64.proofs.block.compile_native_block.Reads as reads
 use Rattle.jit_arm64.proofs.block.compile_native_block.Lts as lts
-use Rattle.a64.proofs.A64Emitter.append.Reads as append-reads
-use Rattle.a64.proofs.A64Emitter.new.Reads as new-reads
+use Rattle.a64.proofs.emitter.A64Emitter.append.Reads as append-reads
+use Rattle.a64.proofs.emitter.A64Emitter.new.Reads as new-reads
 use Rattle.a64.proofs.append_at.Reads as append-at-reads
 use Rattle.jit_arm64.proofs.block.clamped.Reads as clamped-reads
 use Rattle.jit_arm64.proofs.block.emit_end.Reads as emit-end-reads
@@ -73,7 +73,7 @@ loop-again c =
 -- each way out of the loop: at the limit, not fetched, by a helper, not covered, by the last instruction
 at-end : (c : lts.Joined1 (clamped-reads.Asked, clamped-reads.Learnt, new-reads.Asked, new-reads.Learnt, wrapping-add-u64-reads.Asked, wrapping-add-u64-reads.Learnt, fetch-reads.Asked, fetch-reads.Learnt, emit-native-reads.Asked, emit-native-reads.Learnt, emit-term-helper-reads.Asked, emit-term-helper-reads.Learnt, append-at-reads.Asked, append-at-reads.Learnt, emit-end-reads.Asked, emit-end-reads.Learnt, append-reads.Asked, append-reads.Learnt) reads.Pre reads.Post Inv-loop μ-loop)
     → let a = c .before .before .before .before .before .args in
-    AtEnd (a .host .slots) (a .start) (walk (a .host) (a .guest .now) (a .start) (c .before .before .before .clamped .result) 0 0) (c .if1 .em .words) (c .if1 .len) (c .if1 .i) (c .if1 .n) (c .if1 .stop)
+    AtEnd (a .host .«slot_offset») (a .start) (walk (a .host) (a .guest .now) (a .start) (c .before .before .before .clamped .result) 0 0) (c .if1 .em .words) (c .if1 .len) (c .if1 .i) (c .if1 .n) (c .if1 .stop)
 unfolding held
 at-end c =
     let v = c .before .loop .inv in
@@ -96,7 +96,7 @@ unfolding whole-walk block-words
 returns c =
     let d = c .before .before .before in
     let s = d .before .before .before .before .before in
-    rw (← d .before .before .before .clamped .ensures) (closed (c .append .result) (at-end d) (c .before .before .wrapping-add-u642 .ensures) (c .before .emit-end .ensures (s .args .host .slots)) (c .append .ensures))
+    rw (← d .before .before .before .clamped .ensures) (closed (c .append .result) (at-end d) (c .before .before .wrapping-add-u642 .ensures) (c .before .emit-end .ensures (s .args .host .«slot_offset»)) (c .append .ensures))
 
 pub compile-native-block-spec : {M : Type 1} → statement M
 compile-native-block-spec =

@@ -11,22 +11,22 @@ unfolding end-calls
 returns c =
     let s = c .before .before .before in
     let a = s .args in
-    λ slots. alone slots (a .stop) (a .pc) (a .count) (s .pre) _ _ (c .before .before .new .ensures) (rw (c .enum-told .given .1) refl)
+    λ slot-offset. alone slot-offset (a .stop) (a .pc) (a .count) (s .pre) _ _ (c .before .before .new .ensures) (rw (c .enum-told .given .1) refl)
 
 returns-2 : tie.Need-returns-2
 unfolding end-calls
 returns-2 c =
     let s = c .before .before .before .before .before in
     let a = s .args in
-    λ slots. alone slots (a .stop) (a .pc) (a .count) (s .pre) _ _ (c .before .before .before .before .new .ensures)
-    (rw (c .before .enum-told2 .given .1) (c .emit-return .ensures slots))
+    λ slot-offset. alone slot-offset (a .stop) (a .pc) (a .count) (s .pre) _ _ (c .before .before .before .before .new .ensures)
+    (rw (c .before .enum-told2 .given .1) (c .emit-return .ensures slot-offset))
 
 returns-3 : tie.Need-returns-3
 returns-3 c =
     let s = c .before .before .before .before .before in
     let a = s .args in
-    λ slots. alone slots (a .stop) (a .pc) (a .count) (s .pre) _ _ (c .before .before .before .before .new .ensures)
-    (rw (next-end (a .stop) (a .pc) (a .count) (c .before .before .before .match .keys2) (c .before .before .match2 .keys2), c .emit-return2 .ensures slots, c .before .mov-imm64 .ensures) refl)
+    λ slot-offset. alone slot-offset (a .stop) (a .pc) (a .count) (s .pre) _ _ (c .before .before .before .before .new .ensures)
+    (rw (next-end (a .stop) (a .pc) (a .count) (c .before .before .before .match .keys2) (c .before .before .match2 .keys2), c .emit-return2 .ensures slot-offset, c .before .mov-imm64 .ensures) refl)
 
 pub emit-end-spec : {M : Type 1} → statement M
 emit-end-spec =

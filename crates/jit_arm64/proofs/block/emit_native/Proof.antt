@@ -10,14 +10,14 @@ returns c =
     let a = s .args in
     let w = c .before .before .if1 .taken in
     let n = s .pre .1 w in
-    compiled (a .host .slots) (a .host) (a .pc) (a .instr) (native16 (a .host) (a .pc) (a .instr) _ (omega arith) w) (c .before .new .ensures) (c .emit-native-instr16 .ensures)
+    compiled (a .host .«slot_offset») (a .host) (a .pc) (a .instr) (native16 (a .host) (a .pc) (a .instr) _ (omega arith) w) (c .before .new .ensures) (c .emit-native-instr16 .ensures)
 
 returns-2 : tie.Need-returns-2
 returns-2 c =
     let s = c .before .before .before .before in
     let a = s .args in
     let w = c .before .before .before .if1 .left in
-    compiled (a .host .slots) (a .host) (a .pc) (a .instr) (native32 (a .host) (a .pc) (a .instr) _ (c .before .before .decode32 .ensures) (omega arith)) (c .before .new2 .ensures) (c .emit-native-instr .ensures)
+    compiled (a .host .«slot_offset») (a .host) (a .pc) (a .instr) (native32 (a .host) (a .pc) (a .instr) _ (c .before .before .decode32 .ensures) (omega arith)) (c .before .new2 .ensures) (c .emit-native-instr .ensures)
 
 pub emit-native-spec : {M : Type 1} → statement M
 emit-native-spec =

@@ -10,7 +10,7 @@ returns c =
     let a = s .args in
     let w = c .before .if1 .taken in
     let n = s .pre .1 w in
-    compiled-helper (a .host .slots) (a .host) (a .pc) (a .instr) (a .emitted) (omega (arith, s .pre .2)) (helper16 (a .host) (a .pc) (a .instr) (a .emitted) _ (omega arith) w) (s .pre .3) (c .emit-native-term-helper16 .ensures)
+    compiled-helper (a .host .«slot_offset») (a .host) (a .pc) (a .instr) (a .emitted) (omega (arith, s .pre .2)) (helper16 (a .host) (a .pc) (a .instr) (a .emitted) _ (omega arith) w) (s .pre .3) (c .emit-native-term-helper16 .ensures)
 
 emit-native-term-helper32-requires : tie.Need-emit-native-term-helper32-requires
 emit-native-term-helper32-requires c κs = (c .before .before .pre .0, rw (c .decode32 .ensures) (omega arith, omega arith, omega arith))
@@ -20,7 +20,7 @@ returns-2 c =
     let s = c .before .before .before in
     let a = s .args in
     let w = c .before .before .if1 .left in
-    compiled-helper (a .host .slots) (a .host) (a .pc) (a .instr) (a .emitted) (omega (arith, s .pre .2)) (helper32 (a .host) (a .pc) (a .instr) (a .emitted) _ (c .before .decode32 .ensures) (omega arith)) (s .pre .3) (c .emit-native-term-helper32 .ensures)
+    compiled-helper (a .host .«slot_offset») (a .host) (a .pc) (a .instr) (a .emitted) (omega (arith, s .pre .2)) (helper32 (a .host) (a .pc) (a .instr) (a .emitted) _ (c .before .decode32 .ensures) (omega arith)) (s .pre .3) (c .emit-native-term-helper32 .ensures)
 
 pub emit-term-helper-spec : {M : Type 1} → statement M
 emit-term-helper-spec =
