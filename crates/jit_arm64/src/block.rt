@@ -111,7 +111,11 @@ fn emit_end(stop: Stop, pc: u64, count: u32) -> InstrEmitter
 fn clamped(limit: u32) -> u32
     ensures { λ r. ⌜ r ≡ min limit max-instrs ⌝ }
 {
-    if limit < MAX_INSTRS { limit } else { MAX_INSTRS }
+    if limit < MAX_INSTRS {
+        limit
+    } else {
+        MAX_INSTRS
+    }
 }
 
 // The instructions from `start` on, at most `limit` of them: each by itself, its words appended; then the end of the block.

@@ -10,6 +10,7 @@ use lib.ListN.{getD}
 use borrow.Author.Tests.{eqb-true, eqb-false, ne-eqb}
 use Rattle.word.specs.Word.{add, shl}
 use Rattle.isa.specs.Formats.{inst, rd, low-reg, high-reg, ciw-imm, ci-imm, shamt-c, ci16-imm, cj-imm, cb-imm}
+use Rattle.a64.specs.Forms.{decode}
 use Rattle.a64_run.specs.Exec.{op-value}
 use Rattle.rv64.specs.declared.alu.Alu.{Alu}
 use Rattle.rv64.specs.declared.alu.Cond.{Cond}
@@ -100,7 +101,7 @@ module _ (r₀ : ℕ → ℕ) (pc : ℕ) (v : Host) (κ : Kept r₀ true v) (z :
       }
 
   jr-agrees : (a : ℕ) → a < 32 → Agrees 2 pc v (Instr.Jalr 0 a 0) (terminate (load 9 a ∷ mov-imm64 10 not-1 ∷ emit (and-x 0 9 10) ∷ []))
-  unfolding exec write all-fit fits form-fits keeps written scratch calls-run call-step form-step op-value
+  unfolding exec write all-fit fits form-fits keeps written scratch calls-run call-step form-step op-value decode
   jr-agrees a ha =
       record {
         flow = refl;
@@ -111,7 +112,7 @@ module _ (r₀ : ℕ → ℕ) (pc : ℕ) (v : Host) (κ : Kept r₀ true v) (z :
   jalr1-agrees : (a : ℕ) → a < 32
       → Agrees 2 pc v (Instr.Jalr 1 a 0)
       (terminate (load 9 a ∷ mov-imm64 10 not-1 ∷ emit (and-x 11 9 10) ∷ mov-imm64 12 (add pc 2) ∷ store 12 1 ∷ emit (orr-x 0 11 31) ∷ []))
-  unfolding exec write all-fit fits form-fits keeps written scratch calls-run call-step form-step op-value
+  unfolding exec write all-fit fits form-fits keeps written scratch calls-run call-step form-step op-value decode
   jalr1-agrees a ha =
       record {
         flow = refl;

@@ -12,6 +12,7 @@ use lib.Pow.{pow-pos}
 use borrow.Author.Tests.{leb-true, leb-false, eqb-true, lt-ltb, le-ltb}
 use Rattle.word.specs.Word.{sext, sdiv, srem, signed, magnitude}
 use Rattle.word.proofs.Laws.{product-below}
+use Rattle.a64.specs.Forms.{decode}
 use Rattle.a64_run.specs.Exec.{op-value, holds, holds-even, difference}
 use Rattle.a64_run.proofs.Flags.{difference-sub, z-law, c-law, n-law, lt-law}
 use Rattle.rv64.specs.declared.alu.Alu.{Alu}
@@ -165,7 +166,7 @@ abbrev pub Computes : List Call → Alu → Host → Type 0
 Computes cs k v = calls-run cs v .r 11 ≡ value k (v .r 9) (v .r 10)
 
 pub body-law : (k : Alu) (v : Host) → v .r 9 < 2 ^ 64 → v .r 10 < 2 ^ 64 → Computes (body k) k v
-unfolding body calls-run call-step form-step value quotient remainder quotient-u remainder-u op-value holds holds-even
+unfolding body calls-run call-step form-step value quotient remainder quotient-u remainder-u op-value holds holds-even decode
 body-law Alu.Add v hx hy = refl
 body-law Alu.Sub v hx hy = difference-sub (v .r 9) (v .r 10) hy
 body-law Alu.Sll v hx hy = refl
@@ -214,13 +215,13 @@ below-32 : (y : ℕ) → y < 32 → y % 64 ≡ y % 32
 below-32 y h = omega arith
 
 pub slliw-law : (v : Host) → v .r 10 < 32 → Computes slliw Alu.Sllw v
-unfolding slliw calls-run call-step form-step value op-value
+unfolding slliw calls-run call-step form-step value op-value decode
 slliw-law v h = rw (below-32 (v .r 10) h)
 
 pub srliw-law : (v : Host) → v .r 10 < 32 → Computes srliw Alu.Srlw v
-unfolding srliw calls-run call-step form-step value op-value
+unfolding srliw calls-run call-step form-step value op-value decode
 srliw-law v h = rw (and32, below-32 (v .r 10) h)
 
 pub sraiw-law : (v : Host) → v .r 10 < 32 → Computes sraiw Alu.Sraw v
-unfolding sraiw calls-run call-step form-step value op-value
+unfolding sraiw calls-run call-step form-step value op-value decode
 sraiw-law v h = rw (below-32 (v .r 10) h)

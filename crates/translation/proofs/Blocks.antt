@@ -144,14 +144,14 @@ unfolding TH.emit-native-term-helper32 TH.opcode-helper TH.load-helper TH.store-
 quiet32 h pc w n d =
     let o = d .opcode in
     quiet-by (eqb o OPCODE-SYSTEM) (eqb o OPCODE-LOAD) (eqb o OPCODE-STORE) (eqb o OPCODE-LOAD-FP) (eqb o OPCODE-STORE-FP) (eqb o OPCODE-AMO)
-    (TH.with-load h pc w d n (TH.load-op (d .funct3))) (TH.with-store h pc w d n (TH.store-op (d .funct3))) (JC.terminate (TH.call-exec (h .exec32) pc w n))
+    (TH.with-load h pc w d n (TH.load-op (d .funct3))) (TH.with-store h pc w d n (TH.store-op (d .funct3))) (JC.terminate (TH.call-exec (h .helper32) pc w n))
     (load-quiet h pc w n d (TH.load-op (d .funct3))) (store-quiet h pc w n d (TH.store-op (d .funct3))) (inl refl)
 
 quiet16 : (h : JH.Host) (pc w n : ℕ) → Quiet (TH.emit-native-term-helper16 h pc w n)
 unfolding TH.emit-native-term-helper16
 quiet16 h pc w n = by (TH.supports (JD.c-op w) (JD.c-funct3 w))
   where
-    by : (b : Bool) → Quiet (cond b (JC.terminate (TH.call-exec (h .exec16) pc w n)) (JC.none []))
+    by : (b : Bool) → Quiet (cond b (JC.terminate (TH.call-exec (h .helper16) pc w n)) (JC.none []))
     by true = inl refl
     by false = inr refl
 
@@ -213,13 +213,13 @@ module _ (r₀ : ℕ → ℕ) (start : ℕ) where
         → w < 2 ^ 16 → u < 2 ^ 32 → Kept r₀ true v → getD (v .slots) 0 0 ≡ 0 → ((size : ℕ) → size % 2 ≡ 0 → Follows (i + size) (rest (suc n) (i + size)) (run size))
         → by-helper (instr-walk host (cond a (cond b (cond c (some u) none) (some w)) none) start n i rest .stop) ≡ 0
         → Walks (instr-walk host (cond a (cond b (cond c (some u) none) (some w)) none) start n i rest) v
-        (R.step (cond (not a) RF.Fetched.Missing (cond (not b) (RF.Fetched.Found (RC.decode16 (host .ebreak) w) 2) (cond (not c) RF.Fetched.Missing (RF.Fetched.Found (RD.decode32 u) 4)))) (R.hart (v .slots) (add start i)) n run)
+        (R.step (cond (not a) RF.Fetched.Missing (cond (not b) (RF.Fetched.Found (RC.decode16 (host .«ignore_ebreak») w) 2) (cond (not c) RF.Fetched.Missing (RF.Fetched.Found (RD.decode32 u) 4)))) (R.hart (v .slots) (add start i)) n run)
     unfolding instr-walk emit-native emit-term-helper R.step next-calls
     instr-walks false b c w u qw qu i n v rest run hw hu κ z go free = stop-walks [] n (add start i) Stop.NotFetched RS.Stop.NotFetched v refl nothing (omega arith)
     instr-walks true false c w u qw qu i n v rest run hw hu κ z go free =
-        let j = RC.decode16 (host .ebreak) w in
+        let j = RC.decode16 (host .«ignore_ebreak») w in
         rw qw
-        (step-walks _ _ (E16.emit-native-instr16 (host .ebreak) (add start i) w) _ 2 i n v rest (run 2) (quiet16 host (add start i) w n) (agrees16 r₀ (add start i) v κ z w hw (host .ebreak))
+        (step-walks _ _ (E16.emit-native-instr16 (host .«ignore_ebreak») (add start i) w) _ 2 i n v rest (run 2) (quiet16 host (add start i) w n) (agrees16 r₀ (add start i) v κ z w hw (host .«ignore_ebreak»))
         (exec-stays j 2 (add start i) (v .slots)) (exec-zero j 2 (add start i) (v .slots) ∙ z) κ (go 2 refl) (rw qw at free))
     instr-walks true true false w u qw qu i n v rest run hw hu κ z go free = stop-walks [] n (add start i) Stop.NotFetched RS.Stop.NotFetched v refl nothing (omega arith)
     instr-walks true true true w u qw qu i n v rest run hw hu κ z go free =
@@ -248,7 +248,7 @@ module _ (r₀ : ℕ → ℕ) (start : ℕ) where
     -- the whole walk
     pub walk-walks : (guest : List ℕ) → Bytes guest → start < 2 ^ 64 → (k n i : ℕ) (v : Host) → add start i % 2 ≡ 0 → Kept r₀ true v → getD (v .slots) 0 0 ≡ 0
         → by-helper (walk host guest start k n i .stop) ≡ 0
-        → Walks (walk host guest start k n i) v (R.run (host .ebreak) k n (drop i guest) (R.hart (v .slots) (add start i)))
+        → Walks (walk host guest start k n i) v (R.run (host .«ignore_ebreak») k n (drop i guest) (R.hart (v .slots) (add start i)))
     unfolding walk R.run fetch fetch-upper R.fetch next-calls
     walk-walks guest hb hs zero n i v he κ z free = stop-walks [] n (add start i) Stop.Limit RS.Stop.Limit v refl nothing (omega arith)
     walk-walks guest hb hs (suc k) n i v he κ z free =
@@ -257,6 +257,6 @@ module _ (r₀ : ℕ → ℕ) (start : ℕ) where
         let o : eqb (add start i % 2) 0 ≡ true = eq-eqb (add start i % 2) 0 he in
         rw (o, word-at guest i, from-drop 2 guest i, from-drop 4 guest i, l, short i 2 (length guest) (omega arith), short i 4 (length guest) (omega arith))
         (instr-walks (leb (i + 2) (length guest)) (eqb (load 2 guest i % 4) 3) (leb (i + 4) (length guest)) (load 2 guest i) (load 4 guest i) refl (wide guest i) i n v
-        (walk host guest start k) (λ size. R.run (host .ebreak) k (n + 1) (drop size (drop i guest))) (load-lt 2 guest i hb) (load-lt 4 guest i hb) κ z
+        (walk host guest start k) (λ size. R.run (host .«ignore_ebreak») k (n + 1) (drop size (drop i guest))) (load-lt 2 guest i hb) (load-lt 4 guest i hb) κ z
         (λ size e u κ′ z′ f. rw (p, drop-drop size i guest) (walk-walks guest hb hs k (suc n) (i + size) u (omega (arith, he, e)) κ′ z′ f))
         (rw (o, word-at guest i) at free))

@@ -11,6 +11,7 @@ use lib.Bits.{and-lt, or-lt, xor-lt}
 use lib.Pow.{pow-pos}
 use lib.ListN.{length, getD, set, length-set}
 use borrow.Author.Tests.{leb-true, le-leb, eq-eqb, ne-eqb, eqb-true, eqb-false}
+use Rattle.rules.specs.Limits.{max-slot-offset}
 use Rattle.word.specs.Word.{wrap, sext, sign, magnitude, signed, asr, sdiv, mulh, sext128}
 use Rattle.word.proofs.Laws.{product-below}
 use Rattle.le.specs.Le as Le
@@ -19,10 +20,11 @@ use Rattle.a64.specs.declared.forms.Op.the-variants.{Add, Sub, And, Orr, Eor, L
 use Rattle.a64.specs.declared.forms.Form.{Form}
 use Rattle.a64.specs.declared.forms.Form.the-variants.{DataProcessing, Ldr, Str, Movz, Movk, Cmp, Csel, Sxtw, AddSp, SubSp, Blr, Ret, Unreadable}
 use Rattle.a64_run.specs.declared.state.Flags.{Flags}
-use Rattle.a64_run.specs.Exec.{State, machine, op-value, compared, holds, address, reaches, exec}
-use Rattle.a64_run.proofs.Straight.{Straight, straight-append, constant-goes}
+use Rattle.a64.specs.Forms.{decode}
+use Rattle.a64_run.specs.Exec.{State, machine, op-value, compared, holds, address, reaches, next, exec}
+use Rattle.a64_run.proofs.Straight.{Straight, straight-append, one-form, constant-goes}
 use Rattle.a64_run.proofs.Slots.{Apart, Slots, slot-stored}
-use Rattle.emit_native.specs.Calls.{Call, emit, mov-imm64, load, store, reg-off, forms, groups}
+use Rattle.emit_native.specs.Calls.{Call, emit, mov-imm64, load, store, reg-off, rust, call-words, words-in, words}
 use Rattle.translation.proofs.Registers.{upd, tab, length-tab, set-tab, operand-tab}
 
 -- ---- the host
@@ -59,7 +61,7 @@ form-step Unreadable v = v
 
 unfoldable pub call-step : Call → Host → Host
 unfolding form-step
-call-step (emit f) v = form-step f v
+call-step (emit w) v = form-step (decode w) v
 call-step (mov-imm64 d c) v = result v d c
 call-step (load d n) v = result v d (getD (v .slots) n 0)
 call-step (store d n) v = host (v .r) (v .f) (set (v .slots) n (operand v d))
@@ -78,7 +80,7 @@ unfoldable pub form-fits : Form → Bool
 unfolding scratch
 form-fits (DataProcessing q d n m) = scratch d && (ltb n 32 && ltb m 32)
 form-fits (Cmp n m) = ltb n 32 && ltb m 32
-form-fits (Csel d n m c) = scratch d && (ltb n 32 && (ltb m 32 && ltb c 16))
+form-fits (Csel d n m c) = scratch d && (ltb n 32 && ltb m 32)
 form-fits (Sxtw d n) = scratch d && ltb n 32
 form-fits (Ldr t n i) = false
 form-fits (Str t n i) = false
@@ -108,7 +110,7 @@ written Unreadable = 31
 
 unfoldable pub fits : Bool → Call → Bool
 unfolding form-fits
-fits b (emit f) = form-fits f
+fits b (emit w) = form-fits (decode w)
 fits b (mov-imm64 d c) = scratch d
 fits b (load d n) = scratch d && b
 fits b (store d n) = ltb d 32 && b
@@ -116,7 +118,7 @@ fits b (store d n) = ltb d 32 && b
 -- X0 still holds the base after the call
 unfoldable pub keeps : Bool → Call → Bool
 unfolding written
-keeps b (emit f) = b && not (eqb (written f) 0)
+keeps b (emit w) = b && not (eqb (written (decode w)) 0)
 keeps b (mov-imm64 d c) = b && not (eqb d 0)
 keeps b (load d n) = b && not (eqb d 0)
 keeps b (store d n) = b
@@ -133,7 +135,7 @@ all-keep b (c ∷ cs) = all-keep (keeps b c) cs
 
 -- the numbers are in range
 abbrev pub In : Call → Type 0
-In (emit f) = Unit {0}
+In (emit w) = Unit {0}
 In (mov-imm64 d c) = c < 2 ^ 64
 In (load d n) = n < 32
 In (store d n) = n < 32
@@ -260,7 +262,7 @@ form-kept r₀ b Unreadable v t κ = absurd t
 
 call-kept : (r₀ : ℕ → ℕ) (b : Bool) (c : Call) (v : Host) → T (fits b c) → In c → Kept r₀ b v → Kept r₀ (keeps b c) (call-step c v)
 unfolding fits keeps call-step
-call-kept r₀ b (emit f) v t h κ = form-kept r₀ b f v t κ
+call-kept r₀ b (emit w) v t h κ = form-kept r₀ b (decode w) v t κ
 call-kept r₀ b (mov-imm64 d c) v t h κ = put-kept r₀ b v κ d c t h
 call-kept r₀ b (load d n) v t h κ = put-kept r₀ b v κ d _ (and-l (scratch d) _ t) (κ .small n)
 call-kept r₀ b (store d n) v t h κ =
@@ -284,11 +286,11 @@ calls-kept r₀ (c ∷ cs) b v t h κ =
 abbrev pub real : ℕ → ℕ → Host → List ℕ → State
 real base sp v m = machine (tab 31 (v .r)) sp (v .f) base m
 
--- from v to u over the forms
-abbrev pub Goes : (ℕ → ℕ) → List ℕ → ℕ → ℕ → List Form → Host → List ℕ → Host → Type 0
-Goes p m₀ base sp fs v m u = (m′ : List ℕ) × Straight fs (real base sp v m) (real base sp u m′) × Slots p m₀ m′ (u .slots)
+-- from v to u over the words
+abbrev pub Goes : (ℕ → ℕ) → List ℕ → ℕ → ℕ → List ℕ → Host → List ℕ → Host → Type 0
+Goes p m₀ base sp ws v m u = (m′ : List ℕ) × Straight ws (real base sp v m) (real base sp u m′) × Slots p m₀ m′ (u .slots)
 
-module _ (p : ℕ → ℕ) (m₀ : List ℕ) (base sp o : ℕ) (r₀ : ℕ → ℕ) (apart : Apart p (length m₀)) (ho : o ≤ 32512)
+module _ (p : ℕ → ℕ) (m₀ : List ℕ) (base sp o : ℕ) (r₀ : ℕ → ℕ) (apart : Apart p (length m₀)) (ho : o ≤ max-slot-offset)
     (at : (n : ℕ) → n < 32 → wrap (r₀ 0 + reg-off o n / 8 * 8) ≡ base + p n) (even : (n : ℕ) → n < 32 → (base + p n) % 8 ≡ 0) where
   slot-address : (v : Host) (m : List ℕ) (n : ℕ) → n < 32 → Kept r₀ true v → address (real base sp v m) 0 (reg-off o n / 8) ≡ base + p n
   unfolding tab
@@ -306,35 +308,26 @@ module _ (p : ℕ → ℕ) (m₀ : List ℕ) (base sp o : ℕ) (r₀ : ℕ → �
   in-offset : (n : ℕ) → n < 32 → reg-off o n / 8 < 4096
   in-offset n h = omega arith
 
-  form-goes : (f : Form) (v : Host) (m : List ℕ) → T (form-fits f) → Straight (f ∷ []) (real base sp v m) (real base sp (form-step f v) m)
+  form-goes : (f : Form) (v : Host) (m : List ℕ) → T (form-fits f) → exec f (real base sp v m) ≡ next (real base sp (form-step f v) m)
   unfolding form-fits form-step
   form-goes (DataProcessing q d n m) v mem t =
       let hd : d < 31 = scratch-lt d (and-l (scratch d) _ t) in
       let hn : n < 32 = ltb→lt n 32 (and-l (ltb n 32) _ (and-r (scratch d) _ t)) in
-      let hm : m < 32 = ltb→lt m 32 (and-r (ltb n 32) _ (and-r (scratch d) _ t)) in (
-        real base sp (form-step (DataProcessing q d n m) v) mem,
-        unfold exec in (rw (operand-tab (v .r) n hn, operand-tab (v .r) m hm, set-tab)),
-        (omega arith, hn, hm),
-        refl,
-      )
+      let hm : m < 32 = ltb→lt m 32 (and-r (ltb n 32) _ (and-r (scratch d) _ t)) in
+      unfold exec in (rw (operand-tab (v .r) n hn, operand-tab (v .r) m hm, set-tab))
   form-goes (Cmp n m) v mem t =
       let hn : n < 32 = ltb→lt n 32 (and-l (ltb n 32) _ t) in
       let hm : m < 32 = ltb→lt m 32 (and-r (ltb n 32) _ t) in
-      (real base sp (form-step (Cmp n m) v) mem, unfold exec in (rw (operand-tab (v .r) n hn, operand-tab (v .r) m hm)), (hn, hm), refl)
+      unfold exec in (rw (operand-tab (v .r) n hn, operand-tab (v .r) m hm))
   form-goes (Csel d n m c) v mem t =
       let hd : d < 31 = scratch-lt d (and-l (scratch d) _ t) in
       let hn : n < 32 = ltb→lt n 32 (and-l (ltb n 32) _ (and-r (scratch d) _ t)) in
-      let hm : m < 32 = ltb→lt m 32 (and-l (ltb m 32) _ (and-r (ltb n 32) _ (and-r (scratch d) _ t))) in
-      let hc : c < 16 = ltb→lt c 16 (and-r (ltb m 32) _ (and-r (ltb n 32) _ (and-r (scratch d) _ t))) in (
-        real base sp (form-step (Csel d n m c) v) mem,
-        unfold exec in (rw (operand-tab (v .r) n hn, operand-tab (v .r) m hm, set-tab)),
-        (omega arith, hn, hm, hc),
-        refl,
-      )
+      let hm : m < 32 = ltb→lt m 32 (and-r (ltb n 32) _ (and-r (scratch d) _ t)) in
+      unfold exec in (rw (operand-tab (v .r) n hn, operand-tab (v .r) m hm, set-tab))
   form-goes (Sxtw d n) v mem t =
       let hd : d < 31 = scratch-lt d (and-l (scratch d) _ t) in
       let hn : n < 32 = ltb→lt n 32 (and-r (scratch d) _ t) in
-      (real base sp (form-step (Sxtw d n) v) mem, unfold exec in (rw (operand-tab (v .r) n hn, set-tab)), (omega arith, hn), refl)
+      unfold exec in (rw (operand-tab (v .r) n hn, set-tab))
   form-goes (Ldr u n i) v mem t = absurd t
   form-goes (Str u n i) v mem t = absurd t
   form-goes (Movz d h i) v mem t = absurd t
@@ -362,32 +355,24 @@ module _ (p : ℕ → ℕ) (m₀ : List ℕ) (base sp o : ℕ) (r₀ : ℕ → �
   form-slots Unreadable v = refl
 
   call-goes : (b : Bool) (c : Call) (v : Host) (m : List ℕ) → T (fits b c) → In c → Kept r₀ b v → Slots p m₀ m (v .slots)
-      → Goes p m₀ base sp (forms o c) v m (call-step c v)
+      → Goes p m₀ base sp (call-words rust o c) v m (call-step c v)
   unfolding fits call-step
-  call-goes b (emit f) v m t h κ s = (m, form-goes f v m t, rw (form-slots f v) s)
+  call-goes b (emit w) v m t h κ s = (m, (real base sp (form-step (decode w) v) m, form-goes (decode w) v m t, refl), rw (form-slots (decode w) v) s)
   call-goes b (mov-imm64 d c) v m t h κ s =
       let hd : d < 31 = scratch-lt d t in
       (m, rw (← set-tab 31 (v .r) d c) (constant-goes (real base sp v m) d hd (rw (length-tab 31 (v .r)) hd) c h), s)
   call-goes true (load d n) v m t h κ s =
       let hd : d < 31 = scratch-lt d (and-l (scratch d) true t) in (
         m,
-        (
-          real base sp (call-step (load d n) v) m,
-          unfold exec in (rw (slot-address v m n h κ, slot-reaches v m n h (s .size), back n, s .holds n h, set-tab)),
-          (omega arith, omega arith, in-offset n h),
-          refl,
-        ),
+        one-form (Ldr d 0 (reg-off o n / 8)) _ _ (omega arith, omega arith, in-offset n h)
+            (unfold exec in (rw (slot-address v m n h κ, slot-reaches v m n h (s .size), back n, s .holds n h, set-tab))),
         s,
       )
   call-goes true (store d n) v m t h κ s =
       let hd : d < 32 = ltb→lt d 32 (and-l (ltb d 32) true t) in (
         Le.store 8 m (p n) (operand v d),
-        (
-          real base sp (call-step (store d n) v) (Le.store 8 m (p n) (operand v d)),
-          unfold exec in (rw (slot-address v m n h κ, slot-reaches v m n h (s .size), back n, operand-tab (v .r) d hd)),
-          (hd, omega arith, in-offset n h),
-          refl,
-        ),
+        one-form (Str d 0 (reg-off o n / 8)) _ _ (hd, omega arith, in-offset n h)
+            (unfold exec in (rw (slot-address v m n h κ, slot-reaches v m n h (s .size), back n, operand-tab (v .r) d hd))),
         slot-stored p m₀ m (v .slots) apart s n (operand v d) h (operand-lt v (κ .regs) d),
       )
   call-goes false (load d n) v m t h κ s = absurd (and-r (scratch d) false t)
@@ -395,11 +380,11 @@ module _ (p : ℕ → ℕ) (m₀ : List ℕ) (base sp o : ℕ) (r₀ : ℕ → �
 
   -- a list of calls
   pub calls-go : (cs : List Call) (b : Bool) (v : Host) (m : List ℕ) → T (all-fit b cs) → AllIn cs → Kept r₀ b v → Slots p m₀ m (v .slots)
-      → Goes p m₀ base sp (flatten (groups o cs)) v m (calls-run cs v)
-  unfolding all-fit calls-run flatten
+      → Goes p m₀ base sp (words o cs) v m (calls-run cs v)
+  unfolding all-fit calls-run words-in flatten
   calls-go [] b v m t h κ s = (m, refl, s)
   calls-go (c ∷ cs) b v m t h κ s =
       let t1 : T (fits b c) = and-l (fits b c) _ t in
       let g = call-goes b c v m t1 (h .0) κ s in
       let r = calls-go cs (keeps b c) (call-step c v) (g .0) (and-r (fits b c) _ t) (h .1) (call-kept r₀ b c v t1 (h .0) κ) (g .2) in
-      (r .0, straight-append (forms o c) (flatten (groups o cs)) _ _ _ (g .1) (r .1), r .2)
+      (r .0, straight-append (call-words rust o c) (words o cs) _ _ _ (g .1) (r .1), r .2)

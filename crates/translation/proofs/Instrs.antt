@@ -9,6 +9,7 @@ use lib.Dec.{eqb, leb, ltb, T}
 use lib.ListN.{getD, set}
 use borrow.Author.Tests.{eqb-true}
 use Rattle.word.specs.Word.{add}
+use Rattle.a64.specs.Forms.{decode}
 use Rattle.a64_run.specs.Exec.{op-value, compared, holds, holds-even}
 use Rattle.a64_run.proofs.Flags.{z-law, c-law, lt-law}
 use Rattle.rv64.specs.declared.alu.Alu.{Alu}
@@ -112,7 +113,7 @@ unfolding all-fit all-keep fits keeps scratch calls-run call-step
 with-constant a c ha hc = record { fit = tt; stay = refl; range = omega arith; slots = λ v. refl }
 
 pub body-fine : (k : Alu) → Fine (body k)
-unfolding body all-fit fits form-fits keeps written all-keep scratch calls-run call-step form-step
+unfolding body all-fit fits form-fits keeps written all-keep scratch calls-run call-step form-step decode
 body-fine Alu.Add = record { fit = tt; stay = refl; range = omega arith; slots = λ v. refl }
 body-fine Alu.Sub = record { fit = tt; stay = refl; range = omega arith; slots = λ v. refl }
 body-fine Alu.Sll = record { fit = tt; stay = refl; range = omega arith; slots = λ v. refl }
@@ -143,15 +144,15 @@ body-fine Alu.Remw = record { fit = tt; stay = refl; range = omega arith; slots 
 body-fine Alu.Remuw = record { fit = tt; stay = refl; range = omega arith; slots = λ v. refl }
 
 pub slliw-fine : Fine slliw
-unfolding slliw all-fit fits form-fits keeps written all-keep scratch calls-run call-step form-step
+unfolding slliw all-fit fits form-fits keeps written all-keep scratch calls-run call-step form-step decode
 slliw-fine = record { fit = tt; stay = refl; range = omega arith; slots = λ v. refl }
 
 pub srliw-fine : Fine srliw
-unfolding srliw all-fit fits form-fits keeps written all-keep scratch calls-run call-step form-step
+unfolding srliw all-fit fits form-fits keeps written all-keep scratch calls-run call-step form-step decode
 srliw-fine = record { fit = tt; stay = refl; range = omega arith; slots = λ v. refl }
 
 pub sraiw-fine : Fine sraiw
-unfolding sraiw all-fit fits form-fits keeps written all-keep scratch calls-run call-step form-step
+unfolding sraiw all-fit fits form-fits keeps written all-keep scratch calls-run call-step form-step decode
 sraiw-fine = record { fit = tt; stay = refl; range = omega arith; slots = λ v. refl }
 
 -- calls after fine ones
@@ -218,27 +219,32 @@ holds-law Cond.Ge x y hx hy = ap not (lt-law x y hx hy)
 holds-law Cond.Ltu x y hx hy = rw (c-law x y hx hy, not-leb)
 holds-law Cond.Geu x y hx hy = c-law x y hx hy ∙ sym (not-not (leb y x)) ∙ ap not (not-leb x y)
 
-condition-lt : (k : Cond) → T (ltb (condition k) 16)
-unfolding condition
-condition-lt Cond.Eq = tt
-condition-lt Cond.Ne = tt
-condition-lt Cond.Lt = tt
-condition-lt Cond.Ge = tt
-condition-lt Cond.Ltu = tt
-condition-lt Cond.Geu = tt
-
 -- the two ways of a branch on X9 and X10
 abbrev pub fork : ℕ → ℕ → ℕ → List Call
 fork k there here = emit (cmp-x 9 10) ∷ mov-imm64 12 there ∷ mov-imm64 13 here ∷ emit (csel-x 0 12 13 k) ∷ []
 
 pub fork-does : (k : Cond) (there here : ℕ) (v : Host) → there < 2 ^ 64 → here < 2 ^ 64 → Does (fork (condition k) there here) v (v .slots)
-unfolding all-fit fits form-fits keeps written scratch calls-run call-step form-step
-fork-does k there here v h l = record { fit = and-both (ltb (condition k) 16) true (condition-lt k) tt; range = omega arith; slots = refl }
+unfolding condition all-fit fits form-fits keeps written scratch calls-run call-step form-step decode
+fork-does Cond.Eq there here v h l = record { fit = tt; range = omega arith; slots = refl }
+fork-does Cond.Ne there here v h l = record { fit = tt; range = omega arith; slots = refl }
+fork-does Cond.Lt there here v h l = record { fit = tt; range = omega arith; slots = refl }
+fork-does Cond.Ge there here v h l = record { fit = tt; range = omega arith; slots = refl }
+fork-does Cond.Ltu there here v h l = record { fit = tt; range = omega arith; slots = refl }
+fork-does Cond.Geu there here v h l = record { fit = tt; range = omega arith; slots = refl }
+
+fork-is : (k : Cond) (there here : ℕ) (v : Host)
+    → calls-run (fork (condition k) there here) v .r 0 ≡ cond (holds (condition k) (compared (v .r 9) (v .r 10))) there here
+unfolding condition calls-run call-step form-step decode
+fork-is Cond.Eq there here v = refl
+fork-is Cond.Ne there here v = refl
+fork-is Cond.Lt there here v = refl
+fork-is Cond.Ge there here v = refl
+fork-is Cond.Ltu there here v = refl
+fork-is Cond.Geu there here v = refl
 
 pub fork-next : (k : Cond) (there here : ℕ) (v : Host) → v .r 9 < 2 ^ 64 → v .r 10 < 2 ^ 64
     → calls-run (fork (condition k) there here) v .r 0 ≡ cond (taken k (v .r 9) (v .r 10)) there here
-unfolding calls-run call-step form-step
-fork-next k there here v hx hy = rw (holds-law k (v .r 9) (v .r 10) hx hy)
+fork-next k there here v hx hy = fork-is k there here v ∙ ap (λ (b : Bool). cond b there here) (holds-law k (v .r 9) (v .r 10) hx hy)
 
 -- the low bit cleared
 pub even : (x : ℕ) → x < 2 ^ 64 → bitAnd x (2 ^ 64 - 2) ≡ x / 2 * 2
@@ -316,7 +322,7 @@ module _ (r₀ : ℕ → ℕ) (n pc : ℕ) (v : Host) (κ : Kept r₀ true v) (z
   jalr-by : (l d a c : ℕ) (t : Bool) → d < 32 → a < 32 → l < 2 ^ 64 → c < 2 ^ 64
       → Does (jalr-calls t l d a c) v (cond t (v .slots) (set (v .slots) d l))
       × (calls-run (jalr-calls t l d a c) v .r 0 ≡ bitAnd (add (getD (v .slots) a 0) c) (2 ^ 64 - 2))
-  unfolding all-fit fits form-fits keeps written scratch calls-run call-step form-step op-value
+  unfolding all-fit fits form-fits keeps written scratch calls-run call-step form-step op-value decode
   jalr-by l d a c true hd ha hl hc = (record { fit = tt; range = omega arith; slots = refl }, refl)
   jalr-by l d a c false hd ha hl hc = (record { fit = tt; range = omega arith; slots = refl }, refl)
 

@@ -2,38 +2,34 @@
 use mathlib.Core.Path.{_≡_, refl, sym, ap, _∙_, subst}
 use mathlib.Core.Bool.{Bool, true, false}
 use mathlib.Core.Logic.{_⊎_, inl, inr}
-use mathlib.Core.List.{List, [], _∷_, _++_, append-assoc, map-append, flatten}
+use mathlib.Core.List.{List, [], _∷_, _++_, append-assoc, flatten}
 use Prim.Native.Nat.{ℕ, zero, suc, _+_, _-_, _*_, _/_, _%_, _^_, _≤_, _<_, min}
 use native.Mathlib.Nat.{not-suc-le-zero, le-of-suc-le-suc}
 use native.Mathlib.Omega.{arith}
 use lib.Dec.{leb, ltb, T}
 use lib.ListN.{length, getD, length-append}
 use borrow.Author.Tests.{ne-eqb, leb-true, leb-false, le-leb, lt-leb, ltb-true, ltb-false}
+use Rattle.rules.specs.Limits.{max-instrs, max-slot-offset}
 use Rattle.word.specs.Word.{wrap, add}
 use Rattle.le.specs.Le.{Bytes, number}
 use Rattle.le.proofs.Laws.{load-lt}
-use Rattle.a64.specs.declared.forms.Form.{Form}
-use Rattle.a64.specs.declared.forms.Form.the-variants.{Ret}
-use Rattle.a64.specs.Forms.{encode}
-use Rattle.a64.specs.Emitter.{encoded, bytes}
-use Rattle.a64.proofs.Coding.{decode-encode, encode-lt}
-use Rattle.a64.proofs.Emission.{length-encoded}
+use Rattle.a64.specs.Forms.{decode}
+use Rattle.a64.specs.Emitter.{bytes}
 use Rattle.a64_run.specs.declared.run.End.{End}
 use Rattle.a64_run.specs.Exec.{State, reg, machine, exec}
 use Rattle.a64_run.specs.Run as A
-use Rattle.a64_run.proofs.Straight.{Straight, straight-run}
+use Rattle.a64_run.proofs.Straight.{Straight, straight-run, straight-lt}
 use Rattle.a64_run.proofs.Slots.{Apart}
 use Rattle.rv64.specs.Run as R
 use Rattle.emit_native.specs.declared.Host as JH
 use Rattle.jit_arm64.specs.declared.block.Stop.{Stop}
 use Rattle.a64.specs.Writers.{ret}
-use Rattle.emit_native.specs.Calls.{Call, emit, mov-imm64, groups, reg-off, Emission}
+use Rattle.emit_native.specs.Calls.{Call, emit, mov-imm64, words-in, words, reg-off, Emission}
 use mathlib.Core.Option.{Option, none, some}
 use Rattle.emit_native.specs.declared.EmitFlow.{EmitFlow}
-use Rattle.emit_native.specs.Calls as JC
-use Rattle.jit_arm64.specs.Block.{Walk, size-of, helped, step, instr-walk, walk, end-calls, block-calls, whole-walk, max-steps}
-use Rattle.jit_arm64.specs.Translate.{by-helper, block-bytes}
-use Rattle.jit_arm64.proofs.Emitting.{forms-append}
+use Rattle.jit_arm64.specs.Block.{Walk, size-of, helped, step, instr-walk, walk, end-calls, block-calls, whole-walk, block-of}
+use Rattle.jit_arm64.specs.Translate.{by-helper}
+use Rattle.jit_arm64.proofs.Emitting.{words-append}
 use Rattle.translation.specs.Demand3.{slot, place, Entry, Ends, Demand3}
 use Rattle.translation.proofs.Registers.{tab, tab-getD, getD-tab}
 use Rattle.translation.proofs.Calls.{Host, host, call-step, calls-run, scratch, fits, all-fit, all-keep, AllIn, Kept, calls-kept, real, Goes, calls-go}
@@ -60,9 +56,9 @@ words-bytes (w ∷ ws) h =
     by : (p q r : ℕ) → p ≡ w / 256 → q ≡ p / 256 → r ≡ q / 256 → r < 256 → w % 256 + 256 * (p % 256 + 256 * (q % 256 + 256 * (r % 256 + 256 * 0))) ≡ w
     by p q r e f g l = omega arith
 
-straight-words : (fs : List Form) (s t : State) (ws : List ℕ) → Straight fs s t → Words ws → Words (encoded fs ++ ws)
-straight-words [] s t ws g h = h
-straight-words (f ∷ fs) s t ws g h = (encode-lt f (g .2), straight-words fs (g .0) t ws (g .3) h)
+straight-words : (ws vs : List ℕ) (s t : State) → Straight ws s t → Words vs → Words (ws ++ vs)
+straight-words [] vs s t g h = h
+straight-words (w ∷ ws) vs s t g h = (straight-lt w s (g .0) (g .1), straight-words ws vs (g .0) t (g .2) h)
 
 -- ---- the end of a block
 
@@ -78,8 +74,8 @@ ending-is Stop.NotFetched pc n t = refl
 abbrev counted : Walk → List Call
 counted w = walk-calls w ++ (mov-imm64 1 (w .count) ∷ [])
 
-block-words : (o : ℕ) (w : Walk) → by-helper (w .stop) ≡ 0 → JC.words o (block-calls w) ≡ encoded (flatten (groups o (counted w))) ++ (encode Ret ∷ [])
-unfolding JC.words flatten
+block-words : (o : ℕ) (w : Walk) → by-helper (w .stop) ≡ 0 → words o (block-calls w) ≡ words o (counted w) ++ (ret ∷ [])
+unfolding words-in flatten
 block-words o w free =
     let tail = mov-imm64 1 (w .count) ∷ emit ret ∷ [] in
     let e : block-calls w ≡ counted w ++ (emit ret ∷ []) =
@@ -87,9 +83,7 @@ block-words o w free =
     ∙ sym (append-assoc (w .calls) (next-calls (w .stop) (w .pc)) tail)
     ∙ sym (append-assoc (walk-calls w) (mov-imm64 1 (w .count) ∷ []) (emit ret ∷ []))
     in
-    ap (λ (cs : List Call). encoded (flatten (groups o cs))) e
-    ∙ ap encoded (forms-append o (counted w) (emit ret ∷ []))
-    ∙ map-append encode (flatten (groups o (counted w))) (Ret ∷ [])
+    ap (words o) e ∙ words-append o (counted w) (emit ret ∷ [])
 
 -- ---- the count is at most the limit
 
@@ -138,29 +132,29 @@ beyond : (a b base : ℕ) → a % 8 ≡ 0 → b % 8 ≡ 0 → (a ≡ b → ⊥) 
 beyond a b base ha hb ne l p q = omega arith
 
 module _ (h : JH.Host) (pc limit : ℕ) (guest : List ℕ) (hb : Bytes guest) (hp : pc < 2 ^ 64) (he : pc % 2 ≡ 0)
-    (ho : h .slots ≤ 32512) (h8 : h .slots % 8 ≡ 0) (free : by-helper (whole-walk h guest pc limit .stop) ≡ 0) where
+    (ho : h .«slot_offset» ≤ max-slot-offset) (h8 : h .«slot_offset» % 8 ≡ 0) (free : by-helper (whole-walk max-instrs h guest pc limit .stop) ≡ 0) where
   abbrev W : Walk
-  W = whole-walk h guest pc limit
+  W = whole-walk max-instrs h guest pc limit
 
-  abbrev fs : List Form
-  fs = flatten (groups (h .slots) (counted W))
+  abbrev ws : List ℕ
+  ws = words (h .«slot_offset») (counted W)
 
-  module _ (s : State) (x : List ℕ) (ε : Entry (h .slots) s x) where
+  module _ (s : State) (x : List ℕ) (ε : Entry (h .«slot_offset») s x) where
     abbrev p : ℕ → ℕ
-    p n = place s (h .slots) n
+    p n = place s (h .«slot_offset») n
 
     apart : Apart p (length (s .mem))
     apart =
         record {
           inside = λ n hn. omega (arith, ε .inside n hn);
-          apart = λ n k hn hk ne. by n k hn hk ne (leb (slot s (h .slots) k + 8) (slot s (h .slots) n)) refl;
+          apart = λ n k hn hk ne. by n k hn hk ne (leb (slot s (h .«slot_offset») k + 8) (slot s (h .«slot_offset») n)) refl;
         }
       where
-        by : (n k : ℕ) → n < 32 → k < 32 → (n ≡ k → ⊥) → (c : Bool) → leb (slot s (h .slots) k + 8) (slot s (h .slots) n) ≡ c → (p k + 8 ≤ p n) ⊎ (p n + 8 ≤ p k)
-        by n k hn hk ne true q = inl (omega (arith, leb-true (slot s (h .slots) k + 8) (slot s (h .slots) n) q, ε .inside n hn, ε .inside k hk))
+        by : (n k : ℕ) → n < 32 → k < 32 → (n ≡ k → ⊥) → (c : Bool) → leb (slot s (h .«slot_offset») k + 8) (slot s (h .«slot_offset») n) ≡ c → (p k + 8 ≤ p n) ⊎ (p n + 8 ≤ p k)
+        by n k hn hk ne true q = inl (omega (arith, leb-true (slot s (h .«slot_offset») k + 8) (slot s (h .«slot_offset») n) q, ε .inside n hn, ε .inside k hk))
         by n k hn hk ne false q =
-            let d : slot s (h .slots) n ≡ slot s (h .slots) k → ⊥ = λ e. ne (slots-differ (reg s 0) (h .slots) n k hn hk e) in
-            inr (beyond (slot s (h .slots) n) (slot s (h .slots) k) (s .base) (ε .aligned n hn) (ε .aligned k hk) d (leb-false (slot s (h .slots) k + 8) (slot s (h .slots) n) q) (ε .inside n hn .0) (ε .inside k hk .0))
+            let d : slot s (h .«slot_offset») n ≡ slot s (h .«slot_offset») k → ⊥ = λ e. ne (slots-differ (reg s 0) (h .«slot_offset») n k hn hk e) in
+            inr (beyond (slot s (h .«slot_offset») n) (slot s (h .«slot_offset») k) (s .base) (ε .aligned n hn) (ε .aligned k hk) d (leb-false (slot s (h .«slot_offset») k + 8) (slot s (h .«slot_offset») n) q) (ε .inside n hn .0) (ε .inside k hk .0))
 
     abbrev r₀ : ℕ → ℕ
     r₀ k = getD (s .x) k 0
@@ -175,18 +169,18 @@ module _ (h : JH.Host) (pc limit : ℕ) (guest : List ℕ) (hb : Bytes guest) (h
     kept : Kept r₀ true v
     kept = record { base = λ t. refl; same = λ k q. refl; count = ε .guest; small = λ i. small i (ltb i 32) refl; regs = ε .small }
 
-    does : Walks W v (R.run (h .ebreak) (R.clamped limit) 0 guest (R.hart x pc))
+    does : Walks W v (R.run (h .«ignore_ebreak») (R.clamped limit) 0 guest (R.hart x pc))
     unfolding whole-walk
     does =
         let e : add pc 0 ≡ pc = omega arith in
-        rw e at (walk-walks r₀ pc h guest hb hp (min limit max-steps) 0 0 v (rw e he) kept (ε .starts 0 (omega arith) ∙ ε .zero) free)
+        rw e at (walk-walks r₀ pc h guest hb hp (min limit max-instrs) 0 0 v (rw e he) kept (ε .starts 0 (omega arith) ∙ ε .zero) free)
 
     fit : T (all-fit true (counted W))
     fit = fit-append true (walk-calls W) (mov-imm64 1 (W .count) ∷ []) (does .fit) (unfold all-fit fits scratch in tt)
 
     few : W .count < 2 ^ 64
     unfolding whole-walk
-    few = omega (arith, walk-most h guest pc (min limit max-steps) 0 0)
+    few = omega (arith, walk-most h guest pc (min limit max-instrs) 0 0)
 
     range : AllIn (counted W)
     range = in-append (walk-calls W) (mov-imm64 1 (W .count) ∷ []) (does .range) (few, tt)
@@ -199,18 +193,18 @@ module _ (h : JH.Host) (pc limit : ℕ) (guest : List ℕ) (hb : Bytes guest) (h
     unfolding calls-run
     last = run-append (walk-calls W) (mov-imm64 1 (W .count) ∷ []) v
 
-    at : (n : ℕ) → n < 32 → wrap (r₀ 0 + reg-off (h .slots) n / 8 * 8) ≡ s .base + p n
+    at : (n : ℕ) → n < 32 → wrap (r₀ 0 + reg-off (h .«slot_offset») n / 8 * 8) ≡ s .base + p n
     at n hn =
-        let e : reg-off (h .slots) n / 8 * 8 ≡ h .slots + 8 * n = omega arith in
+        let e : reg-off (h .«slot_offset») n / 8 * 8 ≡ h .«slot_offset» + 8 * n = omega arith in
         rw e (omega (arith, ε .inside n hn .0))
 
-    goes : Goes p (s .mem) (s .base) (s .sp) fs v (s .mem) u
+    goes : Goes p (s .mem) (s .base) (s .sp) ws v (s .mem) u
     goes =
-        calls-go p (s .mem) (s .base) (s .sp) (h .slots) r₀ apart ho at (λ n hn. even n hn) (counted W) true v (s .mem) fit range kept
+        calls-go p (s .mem) (s .base) (s .sp) (h .«slot_offset») r₀ apart ho at (λ n hn. even n hn) (counted W) true v (s .mem) fit range kept
         (record { size = refl; count = ε .guest; holds = λ n hn. sym (ε .starts n hn); outside = λ j o. refl })
       where
         even : (n : ℕ) → n < 32 → (s .base + p n) % 8 ≡ 0
-        even n hn = let e : s .base + p n ≡ slot s (h .slots) n = omega (arith, ε .inside n hn .0) in rw e (ε .aligned n hn)
+        even n hn = let e : s .base + p n ≡ slot s (h .«slot_offset») n = omega (arith, ε .inside n hn .0) in rw e (ε .aligned n hn)
 
     entry : real (s .base) (s .sp) v (s .mem) ≡ s
     entry =
@@ -221,19 +215,19 @@ module _ (h : JH.Host) (pc limit : ℕ) (guest : List ℕ) (hb : Bytes guest) (h
     abbrev t : State
     t = real (s .base) (s .sp) u (goes .0)
 
-    straight : Straight fs s t
-    straight = subst (λ (z : State). Straight fs z t) entry (goes .1)
+    straight : Straight ws s t
+    straight = subst (λ (z : State). Straight ws z t) entry (goes .1)
 
-    returns : (address budget : ℕ) → length fs < budget
-        → A.run (encoded fs ++ (encode Ret ∷ [])) address budget 0 s ≡ A.ran End.Returned (suc (length fs)) t
-    unfolding A.run A.onward exec
+    returns : (address budget : ℕ) → length ws < budget
+        → A.run (ws ++ (ret ∷ [])) address budget 0 s ≡ A.ran End.Returned (suc (length ws)) t
+    unfolding A.run A.onward exec decode
     returns address budget hl =
-        let e : budget ≡ length fs + suc (budget - suc (length fs)) = omega arith in
-        let z : length fs + 0 ≡ length fs = omega arith in
-        rw e (straight-run fs (encode Ret ∷ []) address (suc (budget - suc (length fs))) 0 s t straight ∙ rw (decode-encode Ret tt, z))
+        let e : budget ≡ length ws + suc (budget - suc (length ws)) = omega arith in
+        let z : length ws + 0 ≡ length ws = omega arith in
+        rw e (straight-run ws (ret ∷ []) address (suc (budget - suc (length ws))) 0 s t straight ∙ rw z)
 
-    all-words : Words (encoded fs ++ (encode Ret ∷ []))
-    all-words = straight-words fs s t (encode Ret ∷ []) straight (encode-lt Ret tt, tt)
+    all-words : Words (ws ++ (ret ∷ []))
+    all-words = straight-words ws (ret ∷ []) s t straight (omega arith, tt)
 
     at-end : Kept r₀ (all-keep true (counted W)) u
     at-end = calls-kept r₀ (counted W) true v fit range kept
@@ -241,7 +235,7 @@ module _ (h : JH.Host) (pc limit : ℕ) (guest : List ℕ) (hb : Bytes guest) (h
     same : (k : ℕ) → k < 31 → scratch k ≡ false → reg t k ≡ reg s k
     same k hk q = getD-tab 31 (u .r) k hk ∙ at-end .same k q
 
-    ends : Ends (h .slots) s (suc (length fs)) (W .count) (A.ran End.Returned (suc (length fs)) t) (R.run (h .ebreak) (R.clamped limit) 0 guest (R.hart x pc))
+    ends : Ends (h .«slot_offset») s (suc (length ws)) (W .count) (A.ran End.Returned (suc (length ws)) t) (R.run (h .«ignore_ebreak») (R.clamped limit) 0 guest (R.hart x pc))
     ends =
         record {
           end = refl;
@@ -259,15 +253,14 @@ module _ (h : JH.Host) (pc limit : ℕ) (guest : List ℕ) (hb : Bytes guest) (h
         }
 
   -- demand 3 for the block of the walk
-  pub demand3 : Demand3 guest pc limit (h .ebreak) (h .slots) (block-bytes h guest pc limit) (W .count)
-  unfolding block-bytes
+  pub demand3 : Demand3 guest pc limit (h .«ignore_ebreak») (h .«slot_offset») (block-of h W .code) (W .count)
   demand3 address budget s x ε hl =
-      let q : JC.words (h .slots) (block-calls W) ≡ encoded fs ++ (encode Ret ∷ []) = block-words (h .slots) W free in
-      let w : A.words (bytes (JC.words (h .slots) (block-calls W))) ≡ encoded fs ++ (encode Ret ∷ []) =
-      ap (λ (l : List ℕ). A.words (bytes l)) q ∙ words-bytes (encoded fs ++ (encode Ret ∷ [])) (all-words s x ε)
+      let q : words (h .«slot_offset») (block-calls W) ≡ ws ++ (ret ∷ []) = block-words (h .«slot_offset») W free in
+      let w : A.words (bytes (words (h .«slot_offset») (block-calls W))) ≡ ws ++ (ret ∷ []) =
+      ap (λ (l : List ℕ). A.words (bytes l)) q ∙ words-bytes (ws ++ (ret ∷ [])) (all-words s x ε)
       in
-      let n : length (encoded fs ++ (encode Ret ∷ [])) ≡ suc (length fs) =
-      length-append (encoded fs) (encode Ret ∷ []) ∙ rw (length-encoded fs) (omega arith)
+      let n : length (ws ++ (ret ∷ [])) ≡ suc (length ws) =
+      length-append ws (ret ∷ []) ∙ omega arith
       in
-      let l : length fs < budget = omega (arith, hl, ap length w, n) in
+      let l : length ws < budget = omega (arith, hl, ap length w, n) in
       rw (w, n, returns s x ε address budget l) (ends s x ε)
