@@ -22,7 +22,7 @@ use Rattle.emit_native.specs.Instr32 as E
 use Rattle.emit_native.proofs.Decoding.{imm-i-is, imm-b-is, imm-u-is, imm-j-is}
 use Rattle.translation.proofs.Calls.{Host, Kept, calls-run}
 use Rattle.translation.proofs.Alus.{body, slliw, srliw, sraiw, body-law, slliw-law, srliw-law, sraiw-law}
-use Rattle.translation.proofs.Instrs.{Agrees, Fine, nothing, one, two, with-constant, body-fine, slliw-fine, srliw-fine, sraiw-fine, condition, op-agrees, imm-agrees, lui-agrees, auipc-agrees, jal-agrees, jalr-agrees, branch-agrees, nop-agrees, uncovered-agrees, helper-agrees}
+use Rattle.translation.proofs.Instrs.{Agrees, Fine, nothing, one, two, with-constant, body-fine, slliw-fine, srliw-fine, sraiw-fine, condition, op-agrees, imm-agrees, lui-agrees, auipc-agrees, jal-agrees, jalr-agrees, branch-agrees, nop-agrees, fence-i-agrees, uncovered-agrees, helper-agrees}
 
 -- what holds at 0 to 7 holds below 8
 pub digit : (P : ℕ → Type 0) → P 0 → P 1 → P 2 → P 3 → P 4 → P 5 → P 6 → P 7 → (n : ℕ) → n < 8 → P n
@@ -294,11 +294,11 @@ module _ (r₀ : ℕ → ℕ) (pc : ℕ) (v : Host) (κ : Kept r₀ true v) (z :
       digit (λ t. Agrees 4 pc v (lookup D.branches t (D.on w) Instr.Uncovered) (E.branch pc w (J.decode32 w) t))
       (branch-on-is Cond.Eq) (branch-on-is Cond.Ne) no-words no-words (branch-on-is Cond.Lt) (branch-on-is Cond.Ge) (branch-on-is Cond.Ltu) (branch-on-is Cond.Geu)
 
-  misc-mem-by : (t : ℕ) → t < 8 → funct3 w ≡ t → Agrees 4 pc v (D.below w 2 Instr.Nop) (E.misc-mem (J.decode32 w))
-  unfolding D.below E.misc-mem
+  misc-mem-by : (t : ℕ) → t < 8 → funct3 w ≡ t → Agrees 4 pc v (D.misc-mem w) (E.misc-mem (J.decode32 w))
+  unfolding D.misc-mem D.fences E.misc-mem
   misc-mem-by =
-      digit (λ t. funct3 w ≡ t → Agrees 4 pc v (D.below w 2 Instr.Nop) (E.misc-mem (J.decode32 w)))
-      (λ e. rw e (nop-agrees r₀ 4 pc v κ z)) (λ e. rw e (nop-agrees r₀ 4 pc v κ z)) (λ e. rw e no-words) (λ e. rw e no-words)
+      digit (λ t. funct3 w ≡ t → Agrees 4 pc v (D.misc-mem w) (E.misc-mem (J.decode32 w)))
+      (λ e. rw e (nop-agrees r₀ 4 pc v κ z)) (λ e. rw e (fence-i-agrees r₀ 4 pc v κ z)) (λ e. rw e no-words) (λ e. rw e no-words)
       (λ e. rw e no-words) (λ e. rw e no-words) (λ e. rw e no-words) (λ e. rw e no-words)
 
   -- helpers and what is never inline
