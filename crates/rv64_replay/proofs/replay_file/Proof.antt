@@ -3,10 +3,10 @@ use Rattle.rv64_replay.proofs.replay_file.Statement.{statement}
 use Rattle.rv64_replay.proofs.replay_file.Tie as tie
 
 abbrev Inv-loop : tie.InvT-loop
-Inv-loop path fd tally₀ name tally = Unit {0}
+Inv-loop path magic rules fd tally₀ name tally = Unit {0}
 
 abbrev μ-loop : tie.MeasureT-loop
-μ-loop path fd tally₀ name tally = tally .left
+μ-loop path magic rules fd tally₀ name tally = tally .left
 
 pub replay-file-spec : {M : Type 1} → statement M
 replay-file-spec =
