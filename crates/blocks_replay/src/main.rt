@@ -86,56 +86,27 @@ fn replay_case(fd: i32) -> bool {
     replay_question(fd, guest)
 }
 
-// How many of the next cases differ.
-fn replay_all(fd: i32, cases: u32) -> u32 {
-    let mut wrong = 0;
-    let mut left = cases;
-    while left > 0 {
-        if !replay_case(fd) {
-            wrong = std::num::wrapping_add_u32(wrong, 1);
-        }
-        left -= 1;
-    }
-    wrong
-}
-
 // "A64BLOCK"
 const MAGIC: u64 = 0x4b43_4f4c_4234_3641;
 
-// How many cases the file has; none where it is no file of cases. The seed after the number is not used.
-fn read_header(fd: i32) -> u32 {
-    let mut header = [0u8; 20];
-    io::read_full(fd, &mut header);
-    if le::load64(&header, 0) != MAGIC {
-        return 0;
-    }
-    le::load32(&header, 8)
-}
-
-// Replays a file's cases and says how many there were and how many differ, and whether the file goes on after them.
-fn replay(path: &[u8]) {
-    let fd = os::open_read(path);
+// Replays a file's cases and says how many there were and how many differ, and whether the file goes on after them. The
+// seed after the header is not used.
+fn replay_file(path: &[u8]) {
+    let fd = replay::open(path);
     if fd < 0 {
-        os::fail(path);
         return;
     }
-    let cases = read_header(fd);
-    let wrong = replay_all(fd, cases);
-    let mut after = [0u8; 1];
-    let rest = io::read_full(fd, &mut after);
-    libc::close(fd);
+    let mut tally = replay::read_header(fd, MAGIC);
+    replay::read_number(fd);
+    while tally.left > 0 {
+        tally = replay::counted(tally, replay::outcome_of(replay_case(fd)));
+    }
     io::write_all(STDOUT_FILENO, path);
     io::write_all(STDOUT_FILENO, b": ");
-    io::print_decimal(STDOUT_FILENO, cases as u64);
-    io::write_all(STDOUT_FILENO, b" cases, ");
-    io::print_decimal(STDOUT_FILENO, wrong as u64);
-    io::write_all(STDOUT_FILENO, b" differ\n");
-    if rest > 0 {
-        io::write_all(STDOUT_FILENO, b"more bytes after them\n");
-    }
+    replay::report(fd, tally, b" cases, ");
 }
 
 fn main() {
-    replay(b"marked.bin");
-    replay(b"blocks.bin");
+    replay_file(b"marked.bin");
+    replay_file(b"blocks.bin");
 }

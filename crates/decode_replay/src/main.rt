@@ -1,22 +1,9 @@
 // Replays the fields and immediates that the Rust's decoder was recorded to give (rust/oracle/README.md has the format).
 use isa::decode;
-use libc::STDOUT_FILENO;
-
-enum Outcome {
-    Equal,
-    Differs,
-    End,
-}
+use replay::Outcome;
 
 fn byte(record: &[u8], at: usize) -> u8 {
     if at < record.len() { record[at] } else { 0 }
-}
-
-fn number(record: &[u8], at: usize) -> u64 {
-    if at < 4096 && at + 8 <= record.len() {
-        return le::load64(record, at);
-    }
-    0
 }
 
 fn fields_agree(record: &[u8], instr: u32) -> bool {
@@ -28,24 +15,24 @@ fn fields_agree(record: &[u8], instr: u32) -> bool {
         && d.rs2 == byte(record, 8)
         && d.funct7 == byte(record, 9)
         && d.funct5 == byte(record, 10)
-        && d.imm12 as u64 == number(record, 12) % 65536
+        && d.imm12 as u64 == replay::number_at(record, 12) % 65536
 }
 
 fn immediates_agree(record: &[u8], instr: u32) -> bool {
-    decode::imm_i(instr) == number(record, 14)
-        && decode::imm_s(instr) == number(record, 22)
-        && decode::imm_b(instr) == number(record, 30)
-        && decode::imm_u(instr) == number(record, 38)
-        && decode::imm_j(instr) == number(record, 46)
+    decode::imm_i(instr) == replay::number_at(record, 14)
+        && decode::imm_s(instr) == replay::number_at(record, 22)
+        && decode::imm_b(instr) == replay::number_at(record, 30)
+        && decode::imm_u(instr) == replay::number_at(record, 38)
+        && decode::imm_j(instr) == replay::number_at(record, 46)
 }
 
 fn compressed_agree(record: &[u8], instr: u16) -> bool {
-    decode::imm_ciw(instr) == number(record, 2)
-        && decode::imm_ci(instr) == number(record, 10)
-        && decode::imm_ci16(instr) == number(record, 18)
-        && decode::imm_cj(instr) == number(record, 26)
-        && decode::imm_cb(instr) == number(record, 34)
-        && decode::shamt_c(instr) == number(record, 42)
+    decode::imm_ciw(instr) == replay::number_at(record, 2)
+        && decode::imm_ci(instr) == replay::number_at(record, 10)
+        && decode::imm_ci16(instr) == replay::number_at(record, 18)
+        && decode::imm_cj(instr) == replay::number_at(record, 26)
+        && decode::imm_cb(instr) == replay::number_at(record, 34)
+        && decode::shamt_c(instr) == replay::number_at(record, 42)
 }
 
 fn replay_word(fd: i32) -> Outcome {
@@ -53,12 +40,8 @@ fn replay_word(fd: i32) -> Outcome {
     if io::read_full(fd, &mut record) < 54 {
         return Outcome::End;
     }
-    let instr = (number(&record, 0) % 0x1_0000_0000) as u32;
-    if fields_agree(&record, instr) && immediates_agree(&record, instr) {
-        Outcome::Equal
-    } else {
-        Outcome::Differs
-    }
+    let instr = (replay::number_at(&record, 0) % 0x1_0000_0000) as u32;
+    replay::outcome_of(fields_agree(&record, instr) && immediates_agree(&record, instr))
 }
 
 fn replay_halfword(fd: i32) -> Outcome {
@@ -66,78 +49,32 @@ fn replay_halfword(fd: i32) -> Outcome {
     if io::read_full(fd, &mut record) < 50 {
         return Outcome::End;
     }
-    let instr = (number(&record, 0) % 65536) as u16;
-    if compressed_agree(&record, instr) {
-        Outcome::Equal
-    } else {
-        Outcome::Differs
-    }
+    let instr = (replay::number_at(&record, 0) % 65536) as u16;
+    replay::outcome_of(compressed_agree(&record, instr))
 }
 
-struct Tally {
-    records: u32,
-    wrong: u32,
-    done: bool,
-}
-
-// The tally after one record more.
-fn replay_one(fd: i32, is_word: bool, tally: Tally) -> Tally {
-    let outcome = if is_word {
+fn replay_record(fd: i32, is_word: bool) -> Outcome {
+    if is_word {
         replay_word(fd)
     } else {
         replay_halfword(fd)
-    };
-    let records = std::num::wrapping_add_u32(tally.records, 1);
-    let wrong = tally.wrong;
-    match outcome {
-        Outcome::Equal => Tally {
-            records: records,
-            wrong: wrong,
-            done: false,
-        },
-        Outcome::Differs => Tally {
-            records: records,
-            wrong: std::num::wrapping_add_u32(wrong, 1),
-            done: false,
-        },
-        Outcome::End => Tally {
-            records: tally.records,
-            wrong: wrong,
-            done: true,
-        },
     }
-}
-
-fn replay_all(fd: i32, is_word: bool) -> Tally {
-    let mut tally = Tally {
-        records: 0,
-        wrong: 0,
-        done: false,
-    };
-    let mut turns = u32::MAX;
-    while turns > 0 && !tally.done {
-        tally = replay_one(fd, is_word, tally);
-        turns -= 1;
-    }
-    tally
 }
 
 // Replays a file's records and says how many there were and how many differ.
-fn replay(path: &[u8], is_word: bool) {
-    let fd = os::open_read(path);
+fn replay_file(path: &[u8], is_word: bool) {
+    let fd = replay::open(path);
     if fd < 0 {
-        os::fail(path);
         return;
     }
-    let tally = replay_all(fd, is_word);
-    libc::close(fd);
-    io::print_decimal(STDOUT_FILENO, tally.records as u64);
-    io::write_all(STDOUT_FILENO, b" records, ");
-    io::print_decimal(STDOUT_FILENO, tally.wrong as u64);
-    io::write_all(STDOUT_FILENO, b" differ\n");
+    let mut tally = replay::tally_of(u32::MAX);
+    while tally.left > 0 {
+        tally = replay::counted(tally, replay_record(fd, is_word));
+    }
+    replay::report(fd, tally, b" records, ");
 }
 
 fn main() {
-    replay(b"decode.bin", true);
-    replay(b"compressed.bin", false);
+    replay_file(b"decode.bin", true);
+    replay_file(b"compressed.bin", false);
 }

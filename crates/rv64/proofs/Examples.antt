@@ -18,7 +18,8 @@ use Rattle.rv64.specs.Compressed as C
 use Rattle.rv64.specs.Execute as X
 use Rattle.rv64.specs.Run as R
 
--- ---- encodings: NOP, RET, SLTIU with -1, LUI 0x80000, JAL to itself, SRAI by 63, BGEU; LW, SYSTEM, SLLI with bit 26
+-- ---- encodings: NOP, RET, SLTIU with -1, LUI 0x80000, JAL to itself, SRAI by 63, BGEU; FENCE, FENCE.I, funct3 2 of theirs;
+-- LW, SYSTEM, SLLI with bit 26
 decoded32 : (D.decode32 0x00000013 ≡ Instr.OpImm Alu.Add 0 0 0)
     × (D.decode32 0x00008067 ≡ Instr.Jalr 0 1 0)
     × (D.decode32 0xFFF2B313 ≡ Instr.OpImm Alu.Sltu 6 5 (2 ^ 64 - 1))
@@ -26,11 +27,14 @@ decoded32 : (D.decode32 0x00000013 ≡ Instr.OpImm Alu.Add 0 0 0)
     × (D.decode32 0x0000006F ≡ Instr.Jal 0 0)
     × (D.decode32 0x43F55513 ≡ Instr.OpImm Alu.Sra 10 10 63)
     × (D.decode32 0xFEB57EE3 ≡ Instr.Branch Cond.Geu 10 11 (2 ^ 64 - 4))
+    × (D.decode32 0x0FF0000F ≡ Instr.Nop)
+    × (D.decode32 0x0000100F ≡ Instr.FenceI)
+    × (D.decode32 0x0000200F ≡ Instr.Uncovered)
     × (D.decode32 0x00002003 ≡ Instr.Helper)
     × (D.decode32 0x00000073 ≡ Instr.Uncovered)
     × (D.decode32 0x04001013 ≡ Instr.Uncovered)
-unfolding D.decode32 D.by-class class-of D.op-imm D.imms D.shift-imm D.shifts D.branch D.branches D.below
-decoded32 = (refl, refl, refl, refl, refl, refl, refl, refl, refl, refl)
+unfolding D.decode32 D.by-class class-of D.op-imm D.imms D.shift-imm D.shifts D.branch D.branches D.misc-mem D.fences D.below
+decoded32 = (refl, refl, refl, refl, refl, refl, refl, refl, refl, refl, refl, refl, refl)
 
 -- C.NOP, C.LI -1, C.JR, C.JALR, C.EBREAK with and without the flag, C.LWSP with rd 0, the reserved C.ADDW-group, all zero
 decoded16 : (C.decode16 false 0x0001 ≡ Instr.OpImm Alu.Add 0 0 0)

@@ -85,27 +85,36 @@ module _ (w pc : ℕ) (x : List ℕ) where
         (λ k. refl) refl,
   )
 
-  pub below : (n : ℕ) (i : Instr) (e : Effect) → S.sets e < 32 → S.applied e (add pc 4) x ≡ exec i 4 pc x → S.Gives (S.below w n e) (D.below w n i) 4 pc x
-  unfolding S.below D.below S.applied exec
-  below n i e p q =
-      (pick-sets (ltb (funct3 w) n) _ _ p (omega N.arith), either (λ (f : Effect). S.applied f (add pc 4) x) (λ (j : Instr). exec j 4 pc x) (ltb (funct3 w) n) q refl)
-
   abbrev done-by : Effect → Step
   done-by e = S.applied e (add pc 4) x
 
+  abbrev made-by : Instr → Step
+  made-by i = exec i 4 pc x
+
+  pub below : (n : ℕ) (i : Instr) (e : Effect) → S.sets e < 32 → S.applied e (add pc 4) x ≡ exec i 4 pc x → S.Gives (S.below w n e) (D.below w n i) 4 pc x
+  unfolding S.below D.below S.applied exec
+  below n i e p q =
+      (pick-sets (ltb (funct3 w) n) _ _ p (omega N.arith), either done-by made-by (ltb (funct3 w) n) q refl)
+
+  pub fence : S.Gives (S.fenced (funct3 w)) (D.misc-mem w) 4 pc x
+  unfolding S.fenced S.fences D.misc-mem D.fences S.applied exec
+  fence = (
+    pick-sets (eqb (funct3 w) 0) _ _ (omega N.arith) (pick-sets (eqb (funct3 w) 1) _ _ (omega N.arith) (omega N.arith)),
+    either done-by made-by (eqb (funct3 w) 0) refl (either done-by made-by (eqb (funct3 w) 1) refl refl),
+  )
+
   abbrev done : Class → Step
-  done k = exec (D.by-class k w) 4 pc x
+  done k = made-by (D.by-class k w)
 
   -- where the opcode is none that the stepper's `match` has before it
   pub other : (P : Type 0) → Missed P computing (w % 128) → S.Gives (S.other w) (D.decode32 w) 4 pc x
   unfolding S.other S.others S.applied exec D.decode32 D.by-class class-of
   other P h =
       let load = below 7 Instr.Helper Effect.Helper (omega N.arith) refl in
-      let misc = below 2 Instr.Nop Effect.Next (omega N.arith) refl in
       let store = below 4 Instr.Helper Effect.Helper (omega N.arith) refl in (
-        pick-sets (eqb (w % 128) 0x03) _ _ (load .0) (pick-sets (eqb (w % 128) 0x07) _ _ (omega N.arith) (pick-sets (eqb (w % 128) 0x0F) _ _ (misc .0) (pick-sets (eqb (w % 128) 0x23) _ _ (store .0) (pick-sets (eqb (w % 128) 0x27) _ _ (omega N.arith) (pick-sets (eqb (w % 128) 0x2F) _ _ (omega N.arith) (pick-sets (eqb (w % 128) 0x73) _ _ (omega N.arith) (omega N.arith))))))),
+        pick-sets (eqb (w % 128) 0x03) _ _ (load .0) (pick-sets (eqb (w % 128) 0x07) _ _ (omega N.arith) (pick-sets (eqb (w % 128) 0x0F) _ _ (fence .0) (pick-sets (eqb (w % 128) 0x23) _ _ (store .0) (pick-sets (eqb (w % 128) 0x27) _ _ (omega N.arith) (pick-sets (eqb (w % 128) 0x2F) _ _ (omega N.arith) (pick-sets (eqb (w % 128) 0x73) _ _ (omega N.arith) (omega N.arith))))))),
         simp (ne-eqb _ _ (h .1), ne-eqb _ _ (h .0 .1), ne-eqb _ _ (h .0 .0 .1), ne-eqb _ _ (h .0 .0 .0 .1), ne-eqb _ _ (h .0 .0 .0 .0 .1), ne-eqb _ _ (h .0 .0 .0 .0 .0 .1), ne-eqb _ _ (h .0 .0 .0 .0 .0 .0 .1), ne-eqb _ _ (h .0 .0 .0 .0 .0 .0 .0 .1), ne-eqb _ _ (h .0 .0 .0 .0 .0 .0 .0 .0 .1))
-            (either done-by done (eqb (w % 128) 0x03) (load .1) (either done-by done (eqb (w % 128) 0x07) refl (either done-by done (eqb (w % 128) 0x0F) (misc .1) (either done-by done (eqb (w % 128) 0x23) (store .1) (either done-by done (eqb (w % 128) 0x27) refl (either done-by done (eqb (w % 128) 0x2F) refl (either done-by done (eqb (w % 128) 0x73) refl refl))))))),
+            (either done-by done (eqb (w % 128) 0x03) (load .1) (either done-by done (eqb (w % 128) 0x07) refl (either done-by done (eqb (w % 128) 0x0F) (fence .1) (either done-by done (eqb (w % 128) 0x23) (store .1) (either done-by done (eqb (w % 128) 0x27) refl (either done-by done (eqb (w % 128) 0x2F) refl (either done-by done (eqb (w % 128) 0x73) refl refl))))))),
       )
 
   -- C.SUB and the others of its group

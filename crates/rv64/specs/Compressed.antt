@@ -9,7 +9,7 @@ use Rattle.isa.specs.Formats.{inst, rd, low-reg, high-reg, ciw-imm, ci-imm, sha
 use Rattle.rv64.specs.declared.alu.Alu.{Alu}
 use Rattle.rv64.specs.declared.alu.Cond.{Cond}
 use Rattle.rv64.specs.declared.decode.Instr.{Instr}
-use Rattle.rv64.specs.Decode.{Table, lookup}
+use Rattle.rv64.specs.Decode.{Table, lookup, itself}
 
 -- inst[15:13]
 abbrev pub funct3 : ℕ → ℕ
@@ -21,9 +21,6 @@ rs2 w = inst 6 2 w
 -- i unless n is 0
 unfoldable pub unless0 : ℕ → Instr → Instr
 unless0 n i = cond (eqb n 0) Instr.Uncovered i
-
-abbrev pub itself : Instr → Instr
-itself i = i
 
 -- ---- quadrant 0: C.ADDI4SPN; C.LW, C.LD, C.SW, C.SD are a helper's
 

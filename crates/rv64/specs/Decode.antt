@@ -21,6 +21,10 @@ abbrev pub lookup : {A B : Type 0} → Table A → ℕ → (A → B) → B → B
 lookup [] n make other = other
 lookup ((k, a) ∷ t) n make other = cond (eqb n k) (make a) (lookup t n make other)
 
+-- where the entry itself is the answer
+abbrev pub itself : {A : Type 0} → A → A
+itself a = a
+
 -- OP: RV32I and RV64I, then M
 unfoldable pub ops : Table Alu
 ops =
@@ -101,6 +105,13 @@ branches =
     ∷ (0b111, Cond.Geu)
     ∷ []
 
+-- MISC-MEM, by funct3: FENCE, which does nothing, and FENCE.I ('Zifencei'), whatever their other fields
+unfoldable pub fences : Table Instr
+fences =
+    (0b000, Instr.Nop)
+    ∷ (0b001, Instr.FenceI)
+    ∷ []
+
 -- ---- the instruction that a word w holds
 
 -- funct7_funct3
@@ -144,13 +155,15 @@ op-imm-32 w = lookup imms32 (funct3 w) (imm w) (shift-imm-32 w)
 unfoldable pub branch : ℕ → Instr
 branch w = lookup branches (funct3 w) (on w) Instr.Uncovered
 
+unfoldable pub misc-mem : ℕ → Instr
+misc-mem w = lookup fences (funct3 w) itself Instr.Uncovered
+
 -- i where funct3 is below n
 unfoldable pub below : ℕ → ℕ → Instr → Instr
 below w n i = cond (ltb (funct3 w) n) i Instr.Uncovered
 
--- by opcode. JALR with any funct3; FENCE and FENCE.I (MISC-MEM, funct3 0 and 1) do nothing; LB, LH, LW, LD, LBU, LHU and
--- LWU (LOAD, funct3 0 to 6), SB, SH, SW and SD (STORE, funct3 0 to 3), floating-point loads and stores and the atomics
--- are a helper's (document 01, source readings and rule 4)
+-- by opcode. JALR with any funct3; LB, LH, LW, LD, LBU, LHU and LWU (LOAD, funct3 0 to 6), SB, SH, SW and SD (STORE,
+-- funct3 0 to 3), floating-point loads and stores and the atomics are a helper's (document 01, source readings and rule 4)
 unfoldable pub by-class : Class → ℕ → Instr
 by-class Class.Op w = op w
 by-class Class.OpImm w = op-imm w
@@ -161,7 +174,7 @@ by-class Class.Auipc w = Instr.Auipc (rd w) (u-imm w)
 by-class Class.Jal w = Instr.Jal (rd w) (j-imm w)
 by-class Class.Jalr w = Instr.Jalr (rd w) (rs1 w) (i-imm w)
 by-class Class.Branch w = branch w
-by-class Class.MiscMem w = below w 2 Instr.Nop
+by-class Class.MiscMem w = misc-mem w
 by-class Class.Load w = below w 7 Instr.Helper
 by-class Class.Store w = below w 4 Instr.Helper
 by-class Class.LoadFp w = Instr.Helper

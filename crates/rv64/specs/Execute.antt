@@ -40,6 +40,7 @@ exec (Instr.Jalr rd rs1 imm) n pc x = ended (write x rd (add pc n)) (add (read x
 exec (Instr.Branch k rs1 rs2 imm) n pc x =
     ended x (cond (taken k (read x rs1) (read x rs2)) (add pc imm) (add pc n))
 exec Instr.Nop n pc x = next x (add pc n)
+exec Instr.FenceI n pc x = next x (add pc n)
 exec Instr.Helper n pc x = record { x = x; flow = Flow.Helper }
 exec Instr.Uncovered n pc x = record { x = x; flow = Flow.Uncovered }
 
@@ -53,5 +54,6 @@ covered (Instr.Jal rd imm) = true
 covered (Instr.Jalr rd rs1 imm) = true
 covered (Instr.Branch k rs1 rs2 imm) = true
 covered Instr.Nop = true
+covered Instr.FenceI = true
 covered Instr.Helper = false
 covered Instr.Uncovered = false

@@ -21,7 +21,7 @@ use Rattle.rv64.specs.declared.run.Stop.{Stop}
 use Rattle.rv64.specs.declared.run.Refusal.{Refusal}
 use Rattle.rv64.specs.declared.run.Answer.{Answer}
 use Rattle.rv64.specs.Alu.{value, taken}
-use Rattle.rv64.specs.Decode.{Table, lookup, imms, shifts, imms32, shifts32, branches, funct10}
+use Rattle.rv64.specs.Decode.{Table, lookup, itself, imms, shifts, imms32, shifts32, branches, funct10}
 use Rattle.rv64.specs.Execute as X
 use Rattle.rv64.specs.Execute.{Step, exec, next, write}
 use Rattle.rv64.specs.Run.{halfword, word, hart}
@@ -36,6 +36,7 @@ applied (Effect.Set rd v) pc x = next (write x rd v) pc
 applied (Effect.Link rd to) pc x = X.ended (write x rd pc) to
 applied (Effect.Ended to) pc x = X.ended x to
 applied Effect.Next pc x = next x pc
+applied Effect.FenceI pc x = next x pc
 applied Effect.Helper pc x = record { x = x; flow = Flow.Helper }
 applied Effect.Uncovered pc x = record { x = x; flow = Flow.Uncovered }
 
@@ -45,6 +46,7 @@ sets (Effect.Set rd v) = rd
 sets (Effect.Link rd to) = rd
 sets (Effect.Ended to) = 0
 sets Effect.Next = 0
+sets Effect.FenceI = 0
 sets Effect.Helper = 0
 sets Effect.Uncovered = 0
 
@@ -82,12 +84,21 @@ branched n x y to pc = lookup branches n (λ (k : Cond). ended (taken k x y) to 
 unfoldable pub below : ℕ → ℕ → Effect → Effect
 below w n e = cond (ltb (funct3 w) n) e Effect.Uncovered
 
+unfoldable pub fences : Table Effect
+fences =
+    (0b000, Effect.Next)
+    ∷ (0b001, Effect.FenceI)
+    ∷ []
+
+unfoldable pub fenced : ℕ → Effect
+fenced n = lookup fences n itself Effect.Uncovered
+
 -- by opcode: LOAD, LOAD-FP, MISC-MEM, STORE, STORE-FP, AMO, SYSTEM
 unfoldable pub others : ℕ → Table Effect
 others w =
     (0x03, below w 7 Effect.Helper)
     ∷ (0x07, Effect.Helper)
-    ∷ (0x0F, below w 2 Effect.Next)
+    ∷ (0x0F, fenced (funct3 w))
     ∷ (0x23, below w 4 Effect.Helper)
     ∷ (0x27, Effect.Helper)
     ∷ (0x2F, Effect.Helper)
@@ -95,7 +106,7 @@ others w =
     ∷ []
 
 unfoldable pub other : ℕ → Effect
-other w = lookup (others w) (opcode w) (λ (e : Effect). e) Effect.Uncovered
+other w = lookup (others w) (opcode w) itself Effect.Uncovered
 
 -- ---- the run
 

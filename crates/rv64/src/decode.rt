@@ -70,6 +70,7 @@ pub enum Instr {
     Branch(Cond, u32, u32, u64),
     // does nothing
     Nop,
+    FenceI,
     // left to a helper
     Helper,
     Uncovered,
@@ -208,6 +209,17 @@ fn below(w: u32, n: u32, e: Effect) -> Effect
     }
 }
 
+// MISC-MEM, by funct3.
+fn fence(n: u32) -> Effect
+    ensures { λ r. ⌜ r ≡ S.fenced n ⌝ }
+{
+    match n {
+        0b000 => Effect::Next,
+        0b001 => Effect::FenceI,
+        _ => Effect::Uncovered,
+    }
+}
+
 // The other opcodes, which set no register.
 fn other(w: u32) -> Effect
     ensures { λ r. ⌜ r ≡ S.other w ⌝ }
@@ -215,7 +227,7 @@ fn other(w: u32) -> Effect
     match w % 128 {
         LOAD => below(w, 7, Effect::Helper),
         LOAD_FP => Effect::Helper,
-        MISC_MEM => below(w, 2, Effect::Next),
+        MISC_MEM => fence(w / 4096 % 8),
         STORE => below(w, 4, Effect::Helper),
         STORE_FP => Effect::Helper,
         AMO => Effect::Helper,

@@ -29,6 +29,8 @@ pub enum Effect {
     Ended(u64),
     // goes on after the instruction
     Next,
+    // the same, after FENCE.I
+    FenceI,
     Helper,
     Uncovered,
 }
@@ -93,6 +95,7 @@ pub fn apply(x: &mut [u64; 32], e: Effect, next: u64) -> Flow
         }
         Effect::Ended(to) => Flow::Ended(to),
         Effect::Next => Flow::Next(next),
+        Effect::FenceI => Flow::Next(next),
         Effect::Helper => Flow::Helper,
         Effect::Uncovered => Flow::Uncovered,
     }

@@ -1,7 +1,8 @@
 -- Every 32-bit encoding: the Rust's emission agrees with the ISA's instruction. Assumes nothing.
-use mathlib.Core.Path.{_≡_, refl, sym, ap, _∙_}
+use mathlib.Core.Path.{_≡_, refl}
 use mathlib.Core.Bool.{Bool, true, false, cond, _&&_, _||_}
 use mathlib.Core.List.{List, [], _∷_}
+use mathlib.Core.Option.{Option}
 use Prim.Native.Nat.{ℕ, zero, suc, _+_, _*_, _/_, _%_, _^_, _<_}
 use native.Mathlib.Omega.{arith}
 use lib.Dec.{eqb, ltb, T}
@@ -22,7 +23,7 @@ use Rattle.emit_native.specs.Instr32 as E
 use Rattle.isa.proofs.Decoding.{imm-i-is, imm-b-is, imm-u-is, imm-j-is}
 use Rattle.translation.proofs.Calls.{Host, Kept, calls-run}
 use Rattle.translation.proofs.Alus.{body, slliw, srliw, sraiw, body-law, slliw-law, srliw-law, sraiw-law}
-use Rattle.translation.proofs.Instrs.{Agrees, Fine, nothing, one, two, with-constant, body-fine, slliw-fine, srliw-fine, sraiw-fine, condition, op-agrees, imm-agrees, lui-agrees, auipc-agrees, jal-agrees, jalr-agrees, branch-agrees, nop-agrees, uncovered-agrees, helper-agrees}
+use Rattle.translation.proofs.Instrs.{Agrees, Fine, nothing, one, two, with-constant, body-fine, slliw-fine, srliw-fine, sraiw-fine, condition, op-agrees, imm-agrees, lui-agrees, auipc-agrees, jal-agrees, jalr-agrees, branch-agrees, nop-agrees, fence-i-agrees, uncovered-agrees, helper-agrees}
 
 -- what holds at 0 to 7 holds below 8
 pub digit : (P : ℕ → Type 0) → P 0 → P 1 → P 2 → P 3 → P 4 → P 5 → P 6 → P 7 → (n : ℕ) → n < 8 → P n
@@ -36,92 +37,113 @@ digit P a b c d e f g h (suc (suc (suc (suc (suc (suc zero)))))) l = g
 digit P a b c d e f g h (suc (suc (suc (suc (suc (suc (suc zero))))))) l = h
 digit P a b c d e f g h (suc (suc (suc (suc (suc (suc (suc (suc n)))))))) l = absurd (omega arith)
 
--- ---- tables: a key over 8 that no entry has
+-- ---- OP and OP-32: by funct7 and funct3
 
-heads : {A : Type 0} → ℕ → ℕ → ℕ → Table A → Bool
-heads a b c [] = true
-heads a b c ((k, x) ∷ t) = (eqb (k / 8) a || (eqb (k / 8) b || eqb (k / 8) c)) && heads a b c t
+-- the entry of a table at n
+find : {A : Type 0} → Table A → ℕ → Option A
+find [] n = Option.none
+find ((k, a) ∷ t) n = cond (eqb n k) (Option.some a) (find t n)
 
-is-head : (k a b c : ℕ) (p q r s : Bool) → eqb (k / 8) a ≡ p → eqb (k / 8) b ≡ q → eqb (k / 8) c ≡ r → T ((p || (q || r)) && s)
-    → (k / 8 ≡ a → ⊥) → (k / 8 ≡ b → ⊥) → (k / 8 ≡ c → ⊥) → ⊥
-is-head k a b c true q r s e f g t x y z = x (eqb-true (k / 8) a e)
-is-head k a b c false true r s e f g t x y z = y (eqb-true (k / 8) b f)
-is-head k a b c false false true s e f g t x y z = z (eqb-true (k / 8) c g)
-is-head k a b c false false false s e f g t x y z = t
+-- what an entry makes, or what stands where there is none
+abbrev made : {A B : Type 0} → Option A → (A → B) → B → B
+made Option.none make other = other
+made (Option.some a) make other = make a
 
-and-snd : (p s : Bool) → T (p && s) → T s
-and-snd true s t = t
-and-snd false s t = absurd t
+found : {A B : Type 0} (t : Table A) (n : ℕ) (make : A → B) (other : B) → lookup t n make other ≡ made (find t n) make other
+unfolding find
+found [] n make other = refl
+found ((k, a) ∷ t) n make other = by (eqb n k) (found t n make other)
+  where
+    by : (b : Bool) → lookup t n make other ≡ made (find t n) make other
+        → cond b (make a) (lookup t n make other) ≡ made (cond b (Option.some a) (find t n)) make other
+    by true q = refl
+    by false q = q
 
-absent : {A : Type 0} (a b c : ℕ) (t : Table A) (n : ℕ) → T (heads a b c t) → (n / 8 ≡ a → ⊥) → (n / 8 ≡ b → ⊥) → (n / 8 ≡ c → ⊥)
-    → (make : A → Instr) (other : Instr) → lookup t n make other ≡ other
-unfolding heads
-absent a b c [] n h x y z make other = refl
-absent a b c ((k, v) ∷ t) n h x y z make other =
-    rw
-    (ne-eqb n k
-    (λ e.
-    is-head k a b c _ _ _ (heads a b c t) refl refl refl h (λ q. x (ap (λ (m : ℕ). m / 8) e ∙ q)) (λ q. y (ap (λ (m : ℕ). m / 8) e ∙ q))
-    (λ q. z (ap (λ (m : ℕ). m / 8) e ∙ q))))
-    (absent a b c t n (and-snd (eqb (k / 8) a || (eqb (k / 8) b || eqb (k / 8) c)) _ h) x y z make other)
+-- the funct7 of the two opcodes' entries
+functs : List ℕ
+functs = 0 ∷ 32 ∷ 1 ∷ []
 
--- ---- OP and OP-32: an entry of the table, or none, and the Rust's arm
+-- n is one of a list
+member : List ℕ → ℕ → Bool
+member [] n = false
+member (a ∷ l) n = eqb n a || member l n
 
-data Arm (t : Table Alu) (key : ℕ) (e : Emission) : Type 0 where
-  found : (k : Alu) → ((make : Alu → Instr) (other : Instr) → lookup t key make other ≡ make k) → e ≡ continue (body k) → Arm t key e
-  missing : ((make : Alu → Instr) (other : Instr) → lookup t key make other ≡ other) → e ≡ none [] → Arm t key e
+-- what holds at each of a list, and at a number that is none of them, holds
+data All (P : ℕ → Type 0) : List ℕ → Type 0 where
+  done : All P []
+  and : {a : ℕ} {l : List ℕ} → P a → All P l → All P (a ∷ l)
 
-over-8 : (f7 f3 : ℕ) → f3 < 8 → (f7 * 8 + f3) / 8 ≡ f7
-over-8 f7 f3 h = omega arith
+None : List ℕ → ℕ → Type 0
+None [] n = Unit {0}
+None (a ∷ l) n = (eqb n a ≡ false) × None l n
 
-module _ (f3 : ℕ) (h : f3 < 8) where
-  op-arm-is : (f7 : ℕ) (a b c : Bool) → eqb f7 0 ≡ a → eqb f7 32 ≡ b → eqb f7 1 ≡ c → Arm D.ops (f7 * 8 + f3) (E.op-arm f7 f3)
-  unfolding D.ops E.op-arm body
-  op-arm-is f7 true b c p q r =
-      rw (eqb-true f7 0 p)
-      (digit (λ n. Arm D.ops (0 * 8 + n) (E.op-arm 0 n))
-      (found Alu.Add (λ m o. refl) refl) (found Alu.Sll (λ m o. refl) refl) (found Alu.Slt (λ m o. refl) refl) (found Alu.Sltu (λ m o. refl) refl)
-      (found Alu.Xor (λ m o. refl) refl) (found Alu.Srl (λ m o. refl) refl) (found Alu.Or (λ m o. refl) refl) (found Alu.And (λ m o. refl) refl) f3 h)
-  op-arm-is f7 false true c p q r =
-      rw (eqb-true f7 32 q)
-      (digit (λ n. Arm D.ops (32 * 8 + n) (E.op-arm 32 n))
-      (found Alu.Sub (λ m o. refl) refl) (missing (λ m o. refl) refl) (missing (λ m o. refl) refl) (missing (λ m o. refl) refl)
-      (missing (λ m o. refl) refl) (found Alu.Sra (λ m o. refl) refl) (missing (λ m o. refl) refl) (missing (λ m o. refl) refl) f3 h)
-  op-arm-is f7 false false true p q r =
-      rw (eqb-true f7 1 r)
-      (digit (λ n. Arm D.ops (1 * 8 + n) (E.op-arm 1 n))
-      (found Alu.Mul (λ m o. refl) refl) (found Alu.Mulh (λ m o. refl) refl) (found Alu.Mulhsu (λ m o. refl) refl) (found Alu.Mulhu (λ m o. refl) refl)
-      (found Alu.Div (λ m o. refl) refl) (found Alu.Divu (λ m o. refl) refl) (found Alu.Rem (λ m o. refl) refl) (found Alu.Remu (λ m o. refl) refl) f3 h)
-  op-arm-is f7 false false false p q r =
-      let e = over-8 f7 f3 h in
-      missing
-      (absent 0 32 1 D.ops (f7 * 8 + f3) (unfold heads in tt) (λ x. eqb-false f7 0 p (sym e ∙ x)) (λ x. eqb-false f7 32 q (sym e ∙ x))
-      (λ x. eqb-false f7 1 r (sym e ∙ x)))
-      (rw (p, q, r))
+each : (P : ℕ → Type 0) (l : List ℕ) (n : ℕ) → All P l → (None l n → P n) → P n
+unfolding None
+each P [] n done other = other tt
+each P (a ∷ l) n (and p ps) other = by (eqb n a) refl (λ q. each P l n ps (λ r. other (q, r)))
+  where
+    by : (b : Bool) → eqb n a ≡ b → (eqb n a ≡ false → P n) → P n
+    by true q rest = rw (eqb-true n a q) p
+    by false q rest = rest q
 
-  op-32-arm-is : (f7 : ℕ) (a b c : Bool) → eqb f7 0 ≡ a → eqb f7 32 ≡ b → eqb f7 1 ≡ c → Arm D.ops32 (f7 * 8 + f3) (E.op-32-arm f7 f3)
-  unfolding D.ops32 E.op-32-arm body
-  op-32-arm-is f7 true b c p q r =
-      rw (eqb-true f7 0 p)
-      (digit (λ n. Arm D.ops32 (0 * 8 + n) (E.op-32-arm 0 n))
-      (found Alu.Addw (λ m o. refl) refl) (found Alu.Sllw (λ m o. refl) refl) (missing (λ m o. refl) refl) (missing (λ m o. refl) refl)
-      (missing (λ m o. refl) refl) (found Alu.Srlw (λ m o. refl) refl) (missing (λ m o. refl) refl) (missing (λ m o. refl) refl) f3 h)
-  op-32-arm-is f7 false true c p q r =
-      rw (eqb-true f7 32 q)
-      (digit (λ n. Arm D.ops32 (32 * 8 + n) (E.op-32-arm 32 n))
-      (found Alu.Subw (λ m o. refl) refl) (missing (λ m o. refl) refl) (missing (λ m o. refl) refl) (missing (λ m o. refl) refl)
-      (missing (λ m o. refl) refl) (found Alu.Sraw (λ m o. refl) refl) (missing (λ m o. refl) refl) (missing (λ m o. refl) refl) f3 h)
-  op-32-arm-is f7 false false true p q r =
-      rw (eqb-true f7 1 r)
-      (digit (λ n. Arm D.ops32 (1 * 8 + n) (E.op-32-arm 1 n))
-      (found Alu.Mulw (λ m o. refl) refl) (missing (λ m o. refl) refl) (missing (λ m o. refl) refl) (missing (λ m o. refl) refl)
-      (found Alu.Divw (λ m o. refl) refl) (found Alu.Divuw (λ m o. refl) refl) (found Alu.Remw (λ m o. refl) refl) (found Alu.Remuw (λ m o. refl) refl) f3 h)
-  op-32-arm-is f7 false false false p q r =
-      let e = over-8 f7 f3 h in
-      missing
-      (absent 0 32 1 D.ops32 (f7 * 8 + f3) (unfold heads in tt) (λ x. eqb-false f7 0 p (sym e ∙ x)) (λ x. eqb-false f7 32 q (sym e ∙ x))
-      (λ x. eqb-false f7 1 r (sym e ∙ x)))
-      (rw (p, q, r))
+no-member : (l : List ℕ) (n : ℕ) → None l n → member l n ≡ false
+unfolding member None
+no-member [] n r = refl
+no-member (a ∷ l) n r = rw (r .0) (no-member l n (r .1))
+
+-- every key, over 8, is of the list; so none of the others has an entry
+heads : {A : Type 0} → List ℕ → Table A → Bool
+heads l [] = true
+heads l ((k, x) ∷ t) = member l (k / 8) && heads l t
+
+both : (p s : Bool) → T (p && s) → (p ≡ true) × T s
+both true s t = (refl, t)
+both false s t = absurd t
+
+absent : {A : Type 0} (l : List ℕ) (t : Table A) (n : ℕ) → T (heads l t) → member l (n / 8) ≡ false → find t n ≡ Option.none
+unfolding heads find
+absent l [] n h r = refl
+absent l ((k, v) ∷ t) n h r =
+    let q = both (member l (k / 8)) (heads l t) h in
+    rw (ne-eqb n k (λ e. let z : _≡_ {A = ℕ} 0 1 = cc (e, q .0, r) in omega arith)) (absent l t n (q .1) r)
+
+-- the Rust's words for an entry
+abbrev emission : Option Alu → Emission
+emission o = made o (λ (k : Alu). continue (body k)) (none [])
+
+-- the Rust's arms of a funct7 are the table's entries
+abbrev At : Table Alu → (ℕ → ℕ → Emission) → ℕ → ℕ → Type 0
+At t arm f7 f3 = arm f7 f3 ≡ emission (find t (f7 * 8 + f3))
+
+abbrev Row : Table Alu → (ℕ → ℕ → Emission) → ℕ → Type 0
+Row t arm f7 = (f3 : ℕ) → f3 < 8 → At t arm f7 f3
+
+rows-are : (t : Table Alu) (arm : ℕ → ℕ → Emission) → T (heads functs t) → All (Row t arm) functs → ((f7 f3 : ℕ) → None functs f7 → arm f7 f3 ≡ none [])
+    → (f7 : ℕ) → Row t arm f7
+rows-are t arm h rows rest f7 =
+    each (Row t arm) functs f7 rows (λ r f3 l.
+    let e : (f7 * 8 + f3) / 8 ≡ f7 = omega arith in
+    rw (rest f7 f3 r, absent functs t (f7 * 8 + f3) h (rw e (no-member functs f7 r))))
+
+op-rows : (f7 : ℕ) → Row D.ops E.op-arm f7
+unfolding D.ops E.op-arm body find heads member functs None
+op-rows =
+    rows-are D.ops E.op-arm tt
+    (and (digit (At D.ops E.op-arm 0) refl refl refl refl refl refl refl refl)
+    (and (digit (At D.ops E.op-arm 32) refl refl refl refl refl refl refl refl)
+    (and (digit (At D.ops E.op-arm 1) refl refl refl refl refl refl refl refl)
+    done)))
+    (λ f7 f3 r. rw (r .0, r .1 .0, r .1 .1 .0))
+
+op-32-rows : (f7 : ℕ) → Row D.ops32 E.op-32-arm f7
+unfolding D.ops32 E.op-32-arm body find heads member functs None
+op-32-rows =
+    rows-are D.ops32 E.op-32-arm tt
+    (and (digit (At D.ops32 E.op-32-arm 0) refl refl refl refl refl refl refl refl)
+    (and (digit (At D.ops32 E.op-32-arm 32) refl refl refl refl refl refl refl refl)
+    (and (digit (At D.ops32 E.op-32-arm 1) refl refl refl refl refl refl refl refl)
+    done)))
+    (λ f7 f3 r. rw (r .0, r .1 .0, r .1 .1 .0))
 
 -- ---- the opcodes that the Rust names, and any other
 
@@ -160,19 +182,16 @@ module _ (r₀ : ℕ → ℕ) (pc : ℕ) (v : Host) (κ : Kept r₀ true v) (z :
   f3-lt : funct3 w < 8
   f3-lt = omega arith
 
-  op-by : Arm D.ops (D.funct10 w) (E.op-arm (funct7 w) (funct3 w)) → Agrees 4 pc v (D.op w) (E.op (J.decode32 w))
-  unfolding D.op E.op store-rd
-  op-by (found k l e) = rw (l (D.reg w) Instr.Uncovered, e) (op-agrees r₀ 4 pc v κ z k (rd w) (rs1 w) (rs2 w) (omega arith) (omega arith) (omega arith))
-  op-by (missing l e) =
-      rw (l (D.reg w) Instr.Uncovered, e)
-      (uncovered-agrees r₀ 4 pc v κ z (load 9 (rs1 w) ∷ load 10 (rs2 w) ∷ []) (two (rs1 w) (rs2 w) (omega arith) (omega arith)))
+  -- an entry of the tables of OP and OP-32, or none
+  op-by : (o : Option Alu) → Agrees 4 pc v (made o (D.reg w) Instr.Uncovered) (calls-first (load 9 (rs1 w) ∷ load 10 (rs2 w) ∷ []) (then-store-rd (rd w) (emission o)))
+  unfolding store-rd
+  op-by (Option.some k) = op-agrees r₀ 4 pc v κ z k (rd w) (rs1 w) (rs2 w) (omega arith) (omega arith) (omega arith)
+  op-by Option.none = uncovered-agrees r₀ 4 pc v κ z (load 9 (rs1 w) ∷ load 10 (rs2 w) ∷ []) (two (rs1 w) (rs2 w) (omega arith) (omega arith))
 
-  op-32-by : Arm D.ops32 (D.funct10 w) (E.op-32-arm (funct7 w) (funct3 w)) → Agrees 4 pc v (D.op32 w) (E.op-32 (J.decode32 w))
-  unfolding D.op32 E.op-32 store-rd
-  op-32-by (found k l e) = rw (l (D.reg w) Instr.Uncovered, e) (op-agrees r₀ 4 pc v κ z k (rd w) (rs1 w) (rs2 w) (omega arith) (omega arith) (omega arith))
-  op-32-by (missing l e) =
-      rw (l (D.reg w) Instr.Uncovered, e)
-      (uncovered-agrees r₀ 4 pc v κ z (load 9 (rs1 w) ∷ load 10 (rs2 w) ∷ []) (two (rs1 w) (rs2 w) (omega arith) (omega arith)))
+  by-table : (t : Table Alu) (arm : ℕ → ℕ → Emission) → ((f7 : ℕ) → Row t arm f7)
+      → Agrees 4 pc v (lookup t (D.funct10 w) (D.reg w) Instr.Uncovered) (calls-first (load 9 (rs1 w) ∷ load 10 (rs2 w) ∷ []) (then-store-rd (rd w) (arm (funct7 w) (funct3 w))))
+  by-table t arm rows =
+      rw (found t (D.funct10 w) (D.reg w) Instr.Uncovered, rows (funct7 w) (funct3 w) f3-lt) (op-by (find t (D.funct10 w)))
 
   -- with the immediate of type I
   imm-is : (k : Alu) → Agrees 4 pc v (D.imm w k) (calls-first (load 9 (rs1 w) ∷ []) (then-store-rd (rd w) (continue (mov-imm64 10 (J.imm-i w) ∷ body k))))
@@ -294,11 +313,11 @@ module _ (r₀ : ℕ → ℕ) (pc : ℕ) (v : Host) (κ : Kept r₀ true v) (z :
       digit (λ t. Agrees 4 pc v (lookup D.branches t (D.on w) Instr.Uncovered) (E.branch pc w (J.decode32 w) t))
       (branch-on-is Cond.Eq) (branch-on-is Cond.Ne) no-words no-words (branch-on-is Cond.Lt) (branch-on-is Cond.Ge) (branch-on-is Cond.Ltu) (branch-on-is Cond.Geu)
 
-  misc-mem-by : (t : ℕ) → t < 8 → funct3 w ≡ t → Agrees 4 pc v (D.below w 2 Instr.Nop) (E.misc-mem (J.decode32 w))
-  unfolding D.below E.misc-mem
+  misc-mem-by : (t : ℕ) → t < 8 → funct3 w ≡ t → Agrees 4 pc v (D.misc-mem w) (E.misc-mem (J.decode32 w))
+  unfolding D.misc-mem D.fences E.misc-mem
   misc-mem-by =
-      digit (λ t. funct3 w ≡ t → Agrees 4 pc v (D.below w 2 Instr.Nop) (E.misc-mem (J.decode32 w)))
-      (λ e. rw e (nop-agrees r₀ 4 pc v κ z)) (λ e. rw e (nop-agrees r₀ 4 pc v κ z)) (λ e. rw e no-words) (λ e. rw e no-words)
+      digit (λ t. funct3 w ≡ t → Agrees 4 pc v (D.misc-mem w) (E.misc-mem (J.decode32 w)))
+      (λ e. rw e (nop-agrees r₀ 4 pc v κ z)) (λ e. rw e (fence-i-agrees r₀ 4 pc v κ z)) (λ e. rw e no-words) (λ e. rw e no-words)
       (λ e. rw e no-words) (λ e. rw e no-words) (λ e. rw e no-words) (λ e. rw e no-words)
 
   -- helpers and what is never inline
@@ -322,8 +341,8 @@ module _ (r₀ : ℕ → ℕ) (pc : ℕ) (v : Host) (κ : Kept r₀ true v) (z :
   by-opcode _ branch e = rw e (branch-by (funct3 w) f3-lt)
   by-opcode _ op-imm e = rw e (op-imm-by (funct3 w) f3-lt)
   by-opcode _ op-imm-32 e = rw e (op-imm-32-by (funct3 w) f3-lt)
-  by-opcode _ op-32 e = rw e (op-32-by (op-32-arm-is (funct3 w) f3-lt (funct7 w) _ _ _ refl refl refl))
-  by-opcode _ op e = rw e (op-by (op-arm-is (funct3 w) f3-lt (funct7 w) _ _ _ refl refl refl))
+  by-opcode _ op-32 e = rw e (by-table D.ops32 E.op-32-arm op-32-rows)
+  by-opcode _ op e = rw e (by-table D.ops E.op-arm op-rows)
   by-opcode _ misc-mem e = rw e (misc-mem-by (funct3 w) f3-lt refl)
   by-opcode n (other _ q) e =
       rw (e, q .0, q .1, q .2, q .3, q .4, q .5, q .6, q .7, q .8, q .9)

@@ -59,6 +59,7 @@ exec-zero (Instr.Jal d c) n pc x = write-zero x d _
 exec-zero (Instr.Jalr d a c) n pc x = write-zero x d _
 exec-zero (Instr.Branch k a b c) n pc x = refl
 exec-zero Instr.Nop n pc x = refl
+exec-zero Instr.FenceI n pc x = refl
 exec-zero Instr.Helper n pc x = refl
 exec-zero Instr.Uncovered n pc x = refl
 
@@ -79,6 +80,7 @@ exec-stays (Instr.Jal d c) n pc x = tt
 exec-stays (Instr.Jalr d a c) n pc x = tt
 exec-stays (Instr.Branch k a b c) n pc x = tt
 exec-stays Instr.Nop n pc x = tt
+exec-stays Instr.FenceI n pc x = tt
 exec-stays Instr.Helper n pc x = refl
 exec-stays Instr.Uncovered n pc x = refl
 

@@ -4,7 +4,7 @@ use mathlib.Core.Bool.{Bool, true, false, cond}
 use mathlib.Core.List.{[], _∷_}
 use Prim.Native.Nat.{ℕ, zero, suc, _+_, _*_, _%_, _^_, _<_}
 use native.Mathlib.Omega.{arith}
-use lib.Dec.{eqb, ltb}
+use lib.Dec.{eqb}
 use borrow.Author.Tests.{eqb-true}
 use Rattle.isa.specs.Classes.{class-of}
 use Rattle.isa.specs.Formats.{inst, funct3, rd, ciw-imm, ci-imm, ci16-imm}
@@ -28,6 +28,7 @@ helps (Instr.Jal d c) = false
 helps (Instr.Jalr d a c) = false
 helps (Instr.Branch k a b c) = false
 helps Instr.Nop = false
+helps Instr.FenceI = false
 helps Instr.Helper = true
 helps Instr.Uncovered = false
 
@@ -79,7 +80,7 @@ module _ (h : H.Host) (pc w n : ℕ) where
       by false q = g q
 
   pub helps32 : Same
-  unfolding T.emit-native-term-helper32 T.opcode-helper D.by-class class-of D.op D.op32 D.op-imm D.shift-imm D.op-imm-32 D.shift-imm-32 D.branch D.below helps
+  unfolding T.emit-native-term-helper32 T.opcode-helper D.by-class class-of D.op D.op32 D.op-imm D.shift-imm D.op-imm-32 D.shift-imm-32 D.branch D.misc-mem D.fences D.below helps
   helps32 =
       is 0x03 (λ e. rw e (load-by _ (funct3 w) (omega arith) refl)) (λ a.
       is 0x23 (λ e. rw e (store-by _ (funct3 w) (omega arith) refl)) (λ b.
@@ -92,7 +93,7 @@ module _ (h : H.Host) (pc w n : ℕ) where
       is 0x13 (λ e. rw e (in-table D.imms (funct3 w) (D.imm w) _ (λ k. refl) (in-table D.shifts (inst 31 26 w * 8 + funct3 w) (D.shift w) Instr.Uncovered (λ k. refl) refl))) (λ l.
       is 0x1B (λ e. rw e (in-table D.imms32 (funct3 w) (D.imm w) _ (λ k. refl) (in-table D.shifts32 (D.funct10 w) (D.shiftw w) Instr.Uncovered (λ k. refl) refl))) (λ m.
       is 0x63 (λ e. rw e (in-table D.branches (funct3 w) (D.on w) Instr.Uncovered (λ k. refl) refl)) (λ o.
-      is 0x0F (λ e. rw e (any (ltb (funct3 w) 2) Instr.Nop Instr.Uncovered refl refl)) (λ p.
+      is 0x0F (λ e. rw e (any (eqb (funct3 w) 0) Instr.Nop _ refl (any (eqb (funct3 w) 1) Instr.FenceI Instr.Uncovered refl refl))) (λ p.
       is 0x37 (λ e. rw e) (λ q. is 0x17 (λ e. rw e) (λ r. is 0x6F (λ e. rw e) (λ s. is 0x67 (λ e. rw e) (λ t.
       rw (a, b, c, d, f, g, i, j, l, m, o, p, q, r, s, t)))))))))))))))))
 

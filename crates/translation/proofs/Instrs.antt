@@ -353,6 +353,10 @@ module _ (r₀ : ℕ → ℕ) (n pc : ℕ) (v : Host) (κ : Kept r₀ true v) (z
   unfolding exec all-fit all-keep calls-run
   nop-agrees = record { flow = refl; does = record { fit = tt; range = tt; slots = refl }; stay = tt; next = refl }
 
+  pub fence-i-agrees : Agrees n pc v Instr.FenceI (continue [])
+  unfolding exec
+  fence-i-agrees = nop-agrees
+
   -- leftovers
   pub uncovered-agrees : (cs : List Call) → Fine cs → Agrees n pc v Instr.Uncovered (none cs)
   unfolding exec

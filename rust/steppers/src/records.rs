@@ -6,6 +6,7 @@ pub struct Rv64Case {
     pub guest: Vec<u8>,
     pub pc: u64,
     pub limit: u32,
+    pub ignore_ebreak: bool,
     pub before: [u64; 32],
     pub after: [u64; 32],
     pub answer: Rv64Answer,
@@ -75,24 +76,38 @@ fn defaults<const N: usize>() -> [u64; N] {
 /// # Panics
 /// If the file is not a record of RV64 cases.
 pub fn rv64_cases(file: &[u8]) -> Vec<Rv64Case> {
+    read_rv64(file, b"RV64CASE", false)
+}
+
+/// # Panics
+/// If the file is not one of the rules' RV64 cases.
+pub fn rv64_rules(file: &[u8]) -> Vec<Rv64Case> {
+    read_rv64(file, b"RV64RULE", true)
+}
+
+/// `rules`: the cases have a flag and a refusal too.
+fn read_rv64(file: &[u8], magic: &[u8; 8], rules: bool) -> Vec<Rv64Case> {
     let mut r = Reader(file);
-    let number = r.header(b"RV64CASE");
+    let number = r.header(magic);
     let cases = (0..number).map(|_| {
         let length = r.u8();
         let guest = r.bytes(length.into());
         let (pc, limit) = (r.u64(), r.u8().into());
+        let ignore_ebreak = rules && r.u8() != 0;
         let mut before = defaults();
         r.registers(&mut before);
         let mut after = before;
         r.registers(&mut after);
         let (next_pc, count) = (r.u64(), r.u8().into());
+        let refusal = if rules { r.u8().into() } else { 0 };
         Rv64Case {
             guest,
             pc,
             limit,
+            ignore_ebreak,
             before,
             after,
-            answer: Rv64Answer { refusal: 0, count, next_pc },
+            answer: Rv64Answer { refusal, count, next_pc },
         }
     });
     let cases = cases.collect();

@@ -1,20 +1,18 @@
 //! The recorded cases through the steppers: no difference.
 
-use steppers::records::{a64_cases, rv64_cases, A64Case};
+use steppers::records::{a64_cases, rv64_cases, rv64_rules, A64Case, Rv64Case};
 use steppers::{a64_run, rv64_run};
 
 const RV64: &[u8] = include_bytes!("../../../crates/rv64_replay/data/rv64.bin");
+const RV64_RULES: &[u8] = include_bytes!("../../../crates/rv64_replay/data/rv64_rules.bin");
 const A64: &[u8] = include_bytes!("../../../crates/a64_replay/data/a64.bin");
 const A64_RULES: &[u8] = include_bytes!("../../../crates/a64_replay/data/a64_rules.bin");
 
-#[test]
-fn rv64() {
-    let cases = rv64_cases(RV64);
-    assert!(cases.len() >= 20_000);
+fn replay_rv64(cases: &[Rv64Case]) {
     let mut differences = 0;
-    for case in &cases {
+    for case in cases {
         let mut registers = case.before;
-        let answer = rv64_run(&case.guest, case.pc, case.limit, false, &mut registers);
+        let answer = rv64_run(&case.guest, case.pc, case.limit, case.ignore_ebreak, &mut registers);
         if (answer, registers) != (case.answer, case.after) {
             differences += 1;
             println!(
@@ -26,7 +24,21 @@ fn rv64() {
     assert_eq!(differences, 0);
 }
 
-fn replay(cases: &[A64Case]) {
+#[test]
+fn rv64() {
+    let cases = rv64_cases(RV64);
+    assert!(cases.len() >= 20_000);
+    replay_rv64(&cases);
+}
+
+#[test]
+fn rv64_by_rules() {
+    let cases = rv64_rules(RV64_RULES);
+    assert!(cases.len() >= 100);
+    replay_rv64(&cases);
+}
+
+fn replay_a64(cases: &[A64Case]) {
     let mut differences = 0;
     for case in cases {
         let mut state = case.before;
@@ -48,12 +60,12 @@ fn replay(cases: &[A64Case]) {
 fn a64() {
     let cases = a64_cases(A64);
     assert!(cases.len() >= 20_000);
-    replay(&cases);
+    replay_a64(&cases);
 }
 
 #[test]
 fn a64_rules() {
     let cases = a64_cases(A64_RULES);
     assert!(cases.len() >= 400);
-    replay(&cases);
+    replay_a64(&cases);
 }

@@ -3,6 +3,7 @@ use Rattle.rv64.proofs.Tables.{missed}
 use Rattle.rv64.specs.Parts as S
 use Rattle.rv64.specs.Execute as X
 use Rattle.rv64.specs.Compressed as C
+use Rattle.rv64.specs.Decode.{itself}
 use borrow.Author.Needs.{needs}
 use Rattle.rv64.proofs.compressed.cr.Statement.{statement}
 use Rattle.rv64.proofs.compressed.cr.Tie as tie
@@ -17,7 +18,7 @@ returns-2 c = rw (c .before .match .keys2) (c .ebreak-jalr-add .ensures)
 
 returns-3 : tie.Need-returns-3
 unfolding C.cr C.crs S.applied X.exec
-returns-3 c = (omega arith, rw (← missed _ C.itself _ _ (C.crs (c .before .args .ignore-ebreak) (c .before .args .w)) (c .match .rest)))
+returns-3 c = (omega arith, rw (← missed _ itself _ _ (C.crs (c .before .args .ignore-ebreak) (c .before .args .w)) (c .match .rest)))
 
 pub cr-spec : {M : Type 1} → statement M
 cr-spec = tie.close (tie.spec (λ c κs. search needs) (λ c κs. search needs) returns returns-2 returns-3)

@@ -3,6 +3,7 @@ use Rattle.rv64.proofs.Tables.{missed}
 use Rattle.rv64.specs.Parts as S
 use Rattle.rv64.specs.Execute as X
 use Rattle.rv64.specs.Compressed as C
+use Rattle.rv64.specs.Decode.{itself}
 use borrow.Author.Needs.{needs}
 use Rattle.rv64.proofs.compressed.effect16.Statement.{statement}
 use Rattle.rv64.proofs.compressed.effect16.Tie as tie
@@ -21,7 +22,7 @@ returns-3 c = rw (c .before .match .keys3) (c .quadrant2 .ensures)
 
 returns-4 : tie.Need-returns-4
 unfolding C.decode16 C.quadrants S.applied X.exec
-returns-4 c = (omega arith, rw (← missed _ C.itself _ _ (C.quadrants (c .before .args .ignore-ebreak) (c .before .args .w)) (c .match .rest)))
+returns-4 c = (omega arith, rw (← missed _ itself _ _ (C.quadrants (c .before .args .ignore-ebreak) (c .before .args .w)) (c .match .rest)))
 
 pub effect16-spec : {M : Type 1} → statement M
 effect16-spec =

@@ -5,6 +5,7 @@ use Rattle.rv64.specs.Alu as N
 use Rattle.rv64.specs.Parts as S
 use Rattle.rv64.specs.Execute as X
 use Rattle.rv64.specs.Compressed as C
+use Rattle.rv64.specs.Decode.{itself}
 use borrow.Author.Needs.{needs}
 use Rattle.rv64.proofs.compressed.misc_alu.Statement.{statement}
 use Rattle.rv64.proofs.compressed.misc_alu.Tie as tie
@@ -27,7 +28,7 @@ returns-4 c = rw (c .put .ensures, c .before .arith .ensures, c .before .before 
 
 returns-5 : tie.Need-returns-5
 unfolding C.misc-alu C.misc-alus S.applied X.exec N.value
-returns-5 c = (omega arith, rw (← missed _ C.itself _ _ (C.misc-alus (c .before .before .before .before .args .w)) (c .match .rest)))
+returns-5 c = (omega arith, rw (← missed _ itself _ _ (C.misc-alus (c .before .before .before .before .args .w)) (c .match .rest)))
 
 pub misc-alu-spec : {M : Type 1} → statement M
 misc-alu-spec =

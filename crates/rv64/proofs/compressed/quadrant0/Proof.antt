@@ -6,6 +6,7 @@ use Rattle.rv64.specs.Alu as N
 use Rattle.rv64.specs.Parts as S
 use Rattle.rv64.specs.Execute as X
 use Rattle.rv64.specs.Compressed as C
+use Rattle.rv64.specs.Decode.{itself}
 use borrow.Author.Needs.{needs}
 use Rattle.rv64.proofs.compressed.quadrant0.Statement.{statement}
 use Rattle.rv64.proofs.compressed.quadrant0.Tie as tie
@@ -32,7 +33,7 @@ returns-5 c = (omega arith, rw (c .match .keys5))
 
 returns-6 : tie.Need-returns-6
 unfolding C.quadrant0 C.table0 S.applied X.exec N.value
-returns-6 c = (omega arith, rw (← missed _ C.itself _ _ (C.table0 (c .before .args .w)) (c .match .rest)))
+returns-6 c = (omega arith, rw (← missed _ itself _ _ (C.table0 (c .before .args .w)) (c .match .rest)))
 
 pub quadrant0-spec : {M : Type 1} → statement M
 quadrant0-spec =

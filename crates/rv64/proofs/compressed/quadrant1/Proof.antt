@@ -6,6 +6,7 @@ use Rattle.rv64.specs.Alu as N
 use Rattle.rv64.specs.Parts as S
 use Rattle.rv64.specs.Execute as X
 use Rattle.rv64.specs.Compressed as C
+use Rattle.rv64.specs.Decode.{itself}
 use borrow.Author.Needs.{needs}
 use Rattle.rv64.proofs.compressed.quadrant1.Statement.{statement}
 use Rattle.rv64.proofs.compressed.quadrant1.Tie as tie
@@ -44,7 +45,7 @@ returns-8 c = rw (c .branch2 .ensures, c .before .is-zero2 .ensures, c .before .
 
 returns-9 : tie.Need-returns-9
 unfolding C.quadrant1 C.table1 S.applied X.exec X.read X.write N.value N.taken
-returns-9 c = (omega arith, rw (← missed _ C.itself _ _ (C.table1 (c .before .before .before .args .w)) (c .match .rest)))
+returns-9 c = (omega arith, rw (← missed _ itself _ _ (C.table1 (c .before .before .before .args .w)) (c .match .rest)))
 
 pub quadrant1-spec : {M : Type 1} → statement M
 quadrant1-spec =

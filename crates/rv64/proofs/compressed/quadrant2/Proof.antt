@@ -6,6 +6,7 @@ use Rattle.rv64.specs.Alu as N
 use Rattle.rv64.specs.Parts as S
 use Rattle.rv64.specs.Execute as X
 use Rattle.rv64.specs.Compressed as C
+use Rattle.rv64.specs.Decode.{itself}
 use borrow.Author.Needs.{needs}
 use Rattle.rv64.proofs.compressed.quadrant2.Statement.{statement}
 use Rattle.rv64.proofs.compressed.quadrant2.Tie as tie
@@ -36,7 +37,7 @@ returns-6 c = (omega arith, rw (c .match .keys6))
 
 returns-7 : tie.Need-returns-7
 unfolding C.quadrant2 C.table2 S.applied X.exec N.value
-returns-7 c = (omega arith, rw (← missed _ C.itself _ _ (C.table2 (c .before .args .ignore-ebreak) (c .before .args .w)) (c .match .rest)))
+returns-7 c = (omega arith, rw (← missed _ itself _ _ (C.table2 (c .before .args .ignore-ebreak) (c .before .args .w)) (c .match .rest)))
 
 pub quadrant2-spec : {M : Type 1} → statement M
 quadrant2-spec =

@@ -1,6 +1,6 @@
-use Rattle.rv64.specs.declared.execute.Effect.{Effect}
 use Rattle.rv64.proofs.Tables.{missed}
 use Rattle.rv64.specs.Parts as S
+use Rattle.rv64.specs.Decode.{itself}
 use borrow.Author.Needs.{needs}
 use Rattle.rv64.proofs.decode.other.Statement.{statement}
 use Rattle.rv64.proofs.decode.other.Tie as tie
@@ -15,11 +15,11 @@ returns-2 c = rw (c .match .keys2)
 
 returns-3 : tie.Need-returns-3
 unfolding S.other S.others
-returns-3 c = rw (c .below2 .ensures, c .before .match .keys3)
+returns-3 c = rw (c .fence .ensures, c .before .match .keys3)
 
 returns-4 : tie.Need-returns-4
 unfolding S.other S.others
-returns-4 c = rw (c .below3 .ensures, c .before .match .keys4)
+returns-4 c = rw (c .below2 .ensures, c .before .match .keys4)
 
 returns-5 : tie.Need-returns-5
 unfolding S.other S.others
@@ -35,7 +35,7 @@ returns-7 c = rw (c .match .keys7)
 
 returns-8 : tie.Need-returns-8
 unfolding S.other S.others
-returns-8 c = missed _ (λ (e : Effect). e) _ _ (S.others (c .before .args .w)) (c .match .rest)
+returns-8 c = missed _ itself _ _ (S.others (c .before .args .w)) (c .match .rest)
 
 pub other-spec : {M : Type 1} → statement M
 other-spec =

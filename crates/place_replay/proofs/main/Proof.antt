@@ -1,28 +1,28 @@
 use borrow.Author.Needs.{needs}
-use mathlib.Core.Path.{_≡_}
-use lib.ListN.{length}
-use Rattle.a64_replay.proofs.read_registers.Statement.{statement}
-use Rattle.a64_replay.proofs.read_registers.Tie as tie
+use Rattle.place_replay.proofs.main.Statement.{statement}
+use Rattle.place_replay.proofs.main.Tie as tie
 
 abbrev Inv-loop : tie.InvT-loop
-Inv-loop fd x₀ left₀ x left = length x ≡ 31
+Inv-loop fd tally₀ name tally = Unit {0}
 
 abbrev μ-loop : tie.MeasureT-loop
-μ-loop fd x₀ left₀ x left = left
+μ-loop fd tally₀ name tally = tally .left
 
-pub read-registers-spec : {M : Type 1} → statement M
-read-registers-spec =
+pub main-spec : {M : Type 1} → statement M
+main-spec =
     tie.close
     (tie.spec
     Inv-loop
     μ-loop
-    (λ c κs. search needs)
     (λ c. search needs)
     (λ c κs. search needs)
     (λ c. search needs)
     (λ c κs. search needs)
+    (λ c. search needs)
+    (λ c κs. search needs)
     (λ c κs. search needs)
     (λ c. search needs)
     (λ c. search needs)
     (λ c. search needs)
+    (λ c κs. search needs)
     (λ c. search needs))

@@ -2,14 +2,14 @@ use Prim.Native.Nat.{_≤_, _-_}
 use mathlib.Core.Path.{_≡_}
 use lib.ListN.{length}
 use borrow.Author.Needs.{needs}
-use Rattle.a64_replay.proofs.unnamed.Statement.{statement}
-use Rattle.a64_replay.proofs.unnamed.Tie as tie
+use Rattle.replay.proofs.unnamed.Statement.{statement}
+use Rattle.replay.proofs.unnamed.Tie as tie
 
 abbrev Inv-loop : tie.InvT-loop
-Inv-loop x₀ i₀ x i = (i ≤ 31) × (length x ≡ 31)
+Inv-loop x₀ value₀ i₀ x value i = (length x ≡ length x₀) × (i ≤ length x₀)
 
 abbrev μ-loop : tie.MeasureT-loop
-μ-loop x₀ i₀ x i = 31 - i
+μ-loop x₀ value₀ i₀ x value i = length x₀ - i
 
 pub unnamed-spec : {M : Type 1} → statement M
 unnamed-spec =
@@ -20,6 +20,7 @@ unnamed-spec =
     (λ c. search needs)
     (λ c. search needs)
     (λ c. search needs)
+    (λ c κs. search needs)
     (λ c. search needs)
     (λ c. search needs)
     (λ c. search needs)

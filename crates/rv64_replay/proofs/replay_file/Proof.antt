@@ -1,17 +1,15 @@
 use borrow.Author.Needs.{needs}
-use mathlib.Core.Path.{_≡_}
-use lib.ListN.{length}
-use Rattle.rv64_replay.proofs.read_registers.Statement.{statement}
-use Rattle.rv64_replay.proofs.read_registers.Tie as tie
+use Rattle.rv64_replay.proofs.replay_file.Statement.{statement}
+use Rattle.rv64_replay.proofs.replay_file.Tie as tie
 
 abbrev Inv-loop : tie.InvT-loop
-Inv-loop fd x₀ left₀ x left = length x ≡ 32
+Inv-loop path magic rules fd tally₀ name tally = Unit {0}
 
 abbrev μ-loop : tie.MeasureT-loop
-μ-loop fd x₀ left₀ x left = left
+μ-loop path magic rules fd tally₀ name tally = tally .left
 
-pub read-registers-spec : {M : Type 1} → statement M
-read-registers-spec =
+pub replay-file-spec : {M : Type 1} → statement M
+replay-file-spec =
     tie.close
     (tie.spec
     Inv-loop
@@ -22,7 +20,9 @@ read-registers-spec =
     (λ c. search needs)
     (λ c κs. search needs)
     (λ c κs. search needs)
+    (λ c κs. search needs)
     (λ c. search needs)
     (λ c. search needs)
     (λ c. search needs)
+    (λ c κs. search needs)
     (λ c. search needs))

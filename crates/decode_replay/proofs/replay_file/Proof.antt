@@ -1,0 +1,27 @@
+use borrow.Author.Needs.{needs}
+use Rattle.decode_replay.proofs.replay_file.Statement.{statement}
+use Rattle.decode_replay.proofs.replay_file.Tie as tie
+
+abbrev Inv-loop : tie.InvT-loop
+Inv-loop path is-word fd tally₀ name tally = Unit {0}
+
+abbrev μ-loop : tie.MeasureT-loop
+μ-loop path is-word fd tally₀ name tally = tally .left
+
+pub replay-file-spec : {M : Type 1} → statement M
+replay-file-spec =
+    tie.close
+    (tie.spec
+    Inv-loop
+    μ-loop
+    (λ c κs. search needs)
+    (λ c. search needs)
+    (λ c κs. search needs)
+    (λ c. search needs)
+    (λ c κs. search needs)
+    (λ c κs. search needs)
+    (λ c. search needs)
+    (λ c. search needs)
+    (λ c. search needs)
+    (λ c κs. search needs)
+    (λ c. search needs))

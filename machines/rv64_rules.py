@@ -1,0 +1,172 @@
+"""Writes the cases of RV64 run that no machine was asked for. Use: rv64_rules.py RECORD
+
+Each outcome is worked out by hand from document 01 and the ISA, and the comment says how.
+Instructions are literals, so that nothing here leans on another encoder.
+"""
+
+import struct
+import sys
+
+from common import default, pairs, write
+
+C_NOP = 0x0001
+C_ADDI_X10_1 = 0x0505  # X10 = X10 + 1
+C_EBREAK = 0x9002
+C_J_0, C_J_4, C_J_BACK_2 = 0xA001, 0xA011, 0xBFFD
+C_BEQZ_X8_4, C_BNEZ_X8_4, C_BEQZ_X8_BACK_2 = 0xC011, 0xE011, 0xDC7D
+C_JR_X5, C_JALR_X5, C_JALR_X1 = 0x8282, 0x9282, 0x9082
+NOP = 0x0000_0013
+EBREAK = 0x0010_0073
+LW_X0_X0 = 0x0000_2003
+FENCE, FENCE_I = 0x0FF0_000F, 0x0000_100F
+# X5 = PC + 0, 0x1000, -0x1000, 2^31 - 0x1000, -2^31
+AUIPC_0, AUIPC_1, AUIPC_BACK_1, AUIPC_MOST, AUIPC_LEAST = (
+    0x0000_0297, 0x0000_1297, 0xFFFF_F297, 0x7FFF_F297, 0x8000_0297)
+JAL_X1_8, JAL_X1_BACK_4, JAL_X0_BACK_4 = 0x0080_00EF, 0xFFDF_F0EF, 0xFFDF_F06F
+JAL_X1_MOST, JAL_X1_LEAST = 0x7FFF_F0EF, 0x8000_00EF  # 2^20 - 2, -2^20
+JALR_X1_X5, JALR_X0_X5, JALR_X5_X5 = 0x0002_80E7, 0x0002_8067, 0x0002_82E7
+JALR_X1_X5_1, JALR_X1_X5_2, JALR_X1_X5_BACK_1 = 0x0012_80E7, 0x0022_80E7, 0xFFF2_80E7
+BEQ_8, BEQ_BACK_8, BNE_8 = 0x0000_0463, 0xFE00_0CE3, 0x0000_1463  # of X0 and X0
+BEQ_MOST, BEQ_LEAST = 0x7E00_0FE3, 0x8000_0063  # 4094, -4096
+# X5, X6, 8
+BEQ, BNE, BLT, BGE, BLTU, BGEU = (
+    0x0062_8463, 0x0062_9463, 0x0062_C463, 0x0062_D463, 0x0062_E463, 0x0062_F463)
+
+TOP = 2**64
+
+records = []
+
+
+def rule(instructions, pc, next_pc, count, *, limit=64, flag=0, x={}, after={}, refusal=0, rest=b""):
+    """`after` has the registers that change; what is not said stays as it was."""
+    guest = b"".join(struct.pack("<I" if i % 4 == 3 else "<H", i) for i in instructions) + rest
+    assert all(after[r] != x.get(r, default(r)) for r in after)
+    records.append(
+        struct.pack("<B", len(guest)) + guest + struct.pack("<QBB", pc, limit, flag) + pairs(x) + pairs(after)
+        + struct.pack("<QBB", next_pc, count, refusal))
+
+
+# The PC passes from the top of 64 bits to 0 (rule 1): behind the last halfword, behind the last word, inside a word.
+rule([C_NOP], TOP - 2, 0, 1)
+rule([NOP], TOP - 4, 0, 1)
+rule([NOP], TOP - 2, 2, 1)
+rule([FENCE], TOP - 2, 2, 1)
+rule([FENCE_I], TOP - 4, 0, 1)
+# The block goes on at 0.
+rule([C_NOP, C_NOP], TOP - 2, 2, 2)
+rule([C_NOP, C_ADDI_X10_1, NOP, C_ADDI_X10_1], TOP - 4, 6, 4, x={10: 7}, after={10: 9})
+rule([NOP, NOP, NOP], TOP - 6, 6, 3)
+rule([C_NOP] * 32, TOP - 32, 32, 32)
+rule([C_NOP] * 32, TOP - 32, 0, 16, limit=16)
+# It ends behind the top as elsewhere: by the limit, by a helper's instruction, by one that is not covered, by the bytes.
+rule([C_NOP, C_NOP], TOP - 2, 0, 1, limit=1)
+rule([C_NOP, LW_X0_X0], TOP - 2, 0, 1)
+rule([NOP, EBREAK], TOP - 2, 2, 1)
+rule([C_NOP, NOP], TOP - 2, 4, 2, rest=b"\x13")
+rule([C_NOP], TOP - 2, 0, 1, rest=b"\x13\x00")
+# AUIPC: the sum with its own PC, modulo 2^64.
+rule([AUIPC_1], TOP - 4, 0, 1, after={5: 0xFFC})
+rule([AUIPC_1], TOP - 2, 2, 1, after={5: 0xFFE})
+rule([AUIPC_1], TOP - 0x1000, TOP - 0xFFC, 1, after={5: 0})
+rule([AUIPC_MOST], TOP - 4, 0, 1, after={5: 0x7FFF_EFFC})
+rule([AUIPC_BACK_1], 0, 4, 1, after={5: 0xFFFF_FFFF_FFFF_F000})
+rule([AUIPC_BACK_1], 0xFFE, 0x1002, 1, after={5: 0xFFFF_FFFF_FFFF_FFFE})
+rule([AUIPC_LEAST], 0, 4, 1, after={5: 0xFFFF_FFFF_8000_0000})
+rule([AUIPC_0], TOP - 2, 2, 1, after={5: 0xFFFF_FFFF_FFFF_FFFE})
+# Behind the top its PC is small again.
+rule([C_NOP, AUIPC_0], TOP - 2, 4, 2, after={5: 0})
+rule([NOP, AUIPC_0], TOP - 2, 6, 2, after={5: 2})
+rule([C_NOP, AUIPC_BACK_1], TOP - 2, 4, 2, after={5: 0xFFFF_FFFF_FFFF_F000})
+# JAL: link and target.
+rule([JAL_X1_8], TOP - 4, 4, 1, after={1: 0})
+rule([JAL_X1_8], TOP - 2, 6, 1, after={1: 2})
+rule([JAL_X1_8], TOP - 8, 0, 1, after={1: 0xFFFF_FFFF_FFFF_FFFC})
+rule([JAL_X1_BACK_4], 0, 0xFFFF_FFFF_FFFF_FFFC, 1, after={1: 4})
+rule([JAL_X1_BACK_4], 2, 0xFFFF_FFFF_FFFF_FFFE, 1, after={1: 6})
+rule([JAL_X1_BACK_4], 4, 0, 1, after={1: 8})
+rule([JAL_X0_BACK_4], 2, 0xFFFF_FFFF_FFFF_FFFE, 1)
+rule([JAL_X1_MOST], TOP - 4, 0xF_FFFA, 1, after={1: 0})
+rule([JAL_X1_LEAST], 0, 0xFFFF_FFFF_FFF0_0000, 1, after={1: 4})
+rule([C_NOP, JAL_X1_8], TOP - 2, 8, 2, after={1: 4})
+rule([C_NOP, JAL_X1_BACK_4], TOP - 2, 0xFFFF_FFFF_FFFF_FFFC, 2, after={1: 4})
+# JALR: the link wraps, the target is the register's; a sum that wraps, bit 0 cleared.
+rule([JALR_X1_X5], TOP - 4, 0x3000, 1, x={5: 0x3001}, after={1: 0})
+rule([JALR_X1_X5], TOP - 2, 0x3000, 1, x={5: 0x3000}, after={1: 2})
+rule([JALR_X5_X5], TOP - 4, 0x3000, 1, x={5: 0x3000}, after={5: 0})
+rule([JALR_X1_X5_1], 0x1000, 0, 1, x={5: 0xFFFF_FFFF_FFFF_FFFF}, after={1: 0x1004})
+rule([JALR_X1_X5_2], TOP - 4, 0, 1, x={5: 0xFFFF_FFFF_FFFF_FFFF}, after={1: 0})
+rule([JALR_X1_X5_BACK_1], 0x1000, 0xFFFF_FFFF_FFFF_FFFE, 1, x={5: 0}, after={1: 0x1004})
+# C.JALR links behind its two bytes, and reads its register before; C.JR links nothing.
+rule([C_JALR_X5], TOP - 2, 0x3000, 1, x={5: 0x3001}, after={1: 0})
+rule([C_JALR_X1], TOP - 2, 0x3000, 1, x={1: 0x3000}, after={1: 0})
+rule([C_JR_X5], TOP - 2, 0x3000, 1, x={5: 0x3001})
+# Branches: taken, the target wraps; not taken, the PC behind them does.
+rule([BEQ_8], TOP - 4, 4, 1)
+rule([BEQ_8], TOP - 8, 0, 1)
+rule([BEQ_8], TOP - 2, 6, 1)
+rule([BEQ_BACK_8], 0, 0xFFFF_FFFF_FFFF_FFF8, 1)
+rule([BEQ_BACK_8], 6, 0xFFFF_FFFF_FFFF_FFFE, 1)
+rule([BEQ_MOST], TOP - 4, 0xFFA, 1)
+rule([BEQ_LEAST], 0, 0xFFFF_FFFF_FFFF_F000, 1)
+rule([BNE_8], TOP - 4, 0, 1)
+rule([BNE_8], TOP - 2, 2, 1)
+rule([C_NOP, BEQ_BACK_8], TOP - 2, 0xFFFF_FFFF_FFFF_FFF8, 2)
+# X5 is 1 and X6 is 2: BNE, BLT and BLTU are taken. X5 is 2^64 - 1: BNE, BLT and BGEU are.
+for branch, of_1, of_minus_1 in (
+        (BEQ, 0, 0), (BNE, 4, 4), (BLT, 4, 4), (BGE, 0, 0), (BLTU, 4, 0), (BGEU, 0, 4)):
+    rule([branch], TOP - 4, of_1, 1, x={5: 1, 6: 2})
+    rule([branch], TOP - 4, of_minus_1, 1, x={5: 0xFFFF_FFFF_FFFF_FFFF, 6: 2})
+rule([C_J_4], TOP - 2, 2, 1)
+rule([C_J_0], TOP - 2, 0xFFFF_FFFF_FFFF_FFFE, 1)
+rule([C_J_BACK_2], 0, 0xFFFF_FFFF_FFFF_FFFE, 1)
+rule([C_BEQZ_X8_4], TOP - 2, 2, 1, x={8: 0})
+rule([C_BEQZ_X8_4], TOP - 2, 0, 1, x={8: 1})
+rule([C_BNEZ_X8_4], TOP - 2, 2, 1, x={8: 1})
+rule([C_BNEZ_X8_4], TOP - 2, 0, 1, x={8: 0})
+rule([C_BEQZ_X8_BACK_2], 0, 0xFFFF_FFFF_FFFF_FFFE, 1, x={8: 0})
+
+# C.EBREAK under the flag does nothing, and counts (source readings; rule 2).
+rule([C_EBREAK], 0x1000, 0x1002, 1, flag=1)
+rule([C_EBREAK], TOP - 2, 0, 1, flag=1)
+rule([C_ADDI_X10_1, C_EBREAK, C_ADDI_X10_1], 0x1000, 0x1006, 3, flag=1, x={10: 7}, after={10: 9})
+rule([C_ADDI_X10_1, C_EBREAK, C_ADDI_X10_1], 0x1000, 0x1004, 2, flag=1, limit=2, x={10: 7}, after={10: 8})
+rule([C_EBREAK] * 32, 0x1000, 0x1040, 32, flag=1)
+# Without it, it is not covered: the block ends before it, and is refused where it stands first.
+rule([C_ADDI_X10_1, C_EBREAK, C_ADDI_X10_1], 0x1000, 0x1002, 1, x={10: 7}, after={10: 8})
+rule([C_NOP, C_EBREAK], TOP - 2, 0, 1)
+rule([C_EBREAK], 0x1000, 0, 0, refusal=5)
+rule([C_EBREAK, C_ADDI_X10_1], 0x1000, 0, 0, refusal=5)
+# The flag is for C.EBREAK alone: EBREAK is SYSTEM; C.ADD with rd 0 and C.JR with rs1 0 stand beside C.EBREAK.
+rule([C_NOP, EBREAK], 0x1000, 0x1002, 1, flag=1)
+rule([EBREAK], 0x1000, 0, 0, flag=1, refusal=5)
+rule([C_NOP, 0x9006], 0x1000, 0x1002, 1, flag=1)
+rule([C_NOP, 0x8002], 0x1000, 0x1002, 1, flag=1)
+rule([0x9006], 0x1000, 0, 0, flag=1, refusal=5)
+rule([0x8002], 0x1000, 0, 0, flag=1, refusal=5)
+# It changes nothing of the others.
+rule([C_JALR_X5], 0x1000, 0x3000, 1, flag=1, x={5: 0x3001}, after={1: 0x1002})
+rule([C_NOP], TOP - 1, 0, 0, flag=1, refusal=3)
+
+# A jump or a branch into its own bytes ends the block as any other: to its start, or to its second halfword.
+rule([0x0000_00EF], 0x1000, 0x1000, 1, after={1: 0x1004})  # JAL X1, 0
+rule([0x0020_00EF], 0x1000, 0x1002, 1, after={1: 0x1004})  # JAL X1, 2
+rule([0x0000_0063], 0x1000, 0x1000, 1)  # BEQ X0, X0, 0
+rule([0x0000_0163], 0x1000, 0x1002, 1)  # BEQ X0, X0, 2
+rule([C_J_0], 0x1000, 0x1000, 1)
+rule([0xC001], 0x1000, 0x1000, 1, x={8: 0})  # C.BEQZ X8, 0
+rule([JALR_X1_X5], 0x1000, 0x1002, 1, x={5: 0x1003}, after={1: 0x1004})
+
+# JALR with any funct3 is JALR (source readings).
+for funct3 in range(1, 8):
+    more = funct3 * 0x1000
+    rule([JALR_X1_X5 + more], 0x1000, 0x3000, 1, x={5: 0x3001}, after={1: 0x1004})
+    rule([JALR_X0_X5 + more], 0x1000, 0x3000, 1, x={5: 0x3000})
+    rule([JALR_X5_X5 + more], 0x1000, 0x3000, 1, x={5: 0x3001}, after={5: 0x1004})
+    rule([JALR_X1_X5_2 + more], 0x1000, 0x3002, 1, x={5: 0x3001}, after={1: 0x1004})
+    rule([JALR_X1_X5_BACK_1 + more], 0x1000, 0x2FFE, 1, x={5: 0x3000}, after={1: 0x1004})
+    rule([C_ADDI_X10_1, JALR_X1_X5 + more, C_ADDI_X10_1], 0x1000, 0x3000, 2, x={5: 0x3000, 10: 7},
+         after={1: 0x1006, 10: 8})
+
+
+write(sys.argv[1], b"RV64RULE", records)
+print(f"rv64 rules: {len(records)} cases")
