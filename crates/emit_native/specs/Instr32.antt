@@ -65,17 +65,17 @@ compared condition = emit (cmp-x 9 10) ∷ mov-imm64 12 1 ∷ mov-imm64 13 0 ∷
 
 -- X11 is all ones where the divisor is 0
 abbrev pub zero-divisor : ℕ → ℕ → List Call
-zero-divisor zero ones = mov-imm64 zero 0 ∷ emit (cmp-x 10 zero) ∷ mov-imm64 ones u64-MAX ∷ emit (csel-x 11 ones 11 C-EQ) ∷ []
+zero-divisor z ones = mov-imm64 z 0 ∷ emit (cmp-x 10 z) ∷ mov-imm64 ones u64-MAX ∷ emit (csel-x 11 ones 11 C-EQ) ∷ []
 
 -- X11 is the remainder of the division w into Xq, or the dividend where the divisor is 0
 abbrev pub remainder : ℕ → ℕ → ℕ → List Call
-remainder w q zero =
-    emit w ∷ emit (mul-x q q 10) ∷ emit (sub-x 11 9 q) ∷ mov-imm64 zero 0 ∷ emit (cmp-x 10 zero) ∷ emit (csel-x 11 9 11 C-EQ) ∷ []
+remainder w q z =
+    emit w ∷ emit (mul-x q q 10) ∷ emit (sub-x 11 9 q) ∷ mov-imm64 z 0 ∷ emit (cmp-x 10 z) ∷ emit (csel-x 11 9 11 C-EQ) ∷ []
 
 -- Xd is 1 where Xn is the value, and else 0
 abbrev pub is-value : ℕ → ℕ → ℕ → ℕ → List Call
-is-value rn value rd zero =
-    mov-imm64 12 value ∷ emit (cmp-x rn 12) ∷ mov-imm64 rd 1 ∷ mov-imm64 zero 0 ∷ emit (csel-x rd rd zero C-EQ) ∷ []
+is-value rn value rd z =
+    mov-imm64 12 value ∷ emit (cmp-x rn 12) ∷ mov-imm64 rd 1 ∷ mov-imm64 z 0 ∷ emit (csel-x rd rd z C-EQ) ∷ []
 
 -- whether X9 is the least signed number and X10 is -1, as EQ
 abbrev pub overflow : List Call
