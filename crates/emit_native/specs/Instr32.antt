@@ -1,33 +1,33 @@
 -- `emit_native_instr`, arm by arm.
 use Prim.Native.Nat.{ℕ, _/_, _%_, _^_}
 use mathlib.Core.Bool.{cond, _&&_, _||_}
-use mathlib.Core.List.{[], _∷_, _++_}
+use mathlib.Core.List.{List, [], _∷_, _++_}
 use lib.Dec.{eqb}
-use Rattle.word.specs.Word.{add}
+use Rattle.word.specs.Word as Word
 use Rattle.isa.specs.declared.decode.Decoded32.{Decoded32}
 use Rattle.isa.specs.Isa.{OPCODE-LUI, OPCODE-AUIPC, OPCODE-JAL, OPCODE-JALR, OPCODE-BRANCH, OPCODE-OP-IMM, OPCODE-OP, OPCODE-OP-IMM-32, OPCODE-OP-32, OPCODE-MISC-MEM, F3-ADD-SUB, F3-SLL, F3-SLT, F3-SLTU, F3-XOR, F3-SRL-SRA, F3-OR, F3-AND, F3-BEQ, F3-BNE, F3-BLT, F3-BGE, F3-BLTU, F3-BGEU, F3-FENCE, F3-FENCE-I, F7-BASE, F7-SUB-SRA, F7-MULDIV}
 use Rattle.emit_native.specs.Hart.{C-EQ, C-NE, C-CS, C-CC, C-MI, C-GE, C-LT, u64-MAX, i64-MIN, not-1}
 use Rattle.isa.specs.Decode.{imm-i, imm-b, imm-u, imm-j}
 use Rattle.a64.specs.Writers.{add-x, sub-x, and-x, orr-x, eor-x, lslv-x, lsrv-x, asrv-x, mul-x, smulh-x, umulh-x, udiv-x, sdiv-x, cmp-x, csel-x, sxtw-x}
-use Rattle.emit_native.specs.Calls.{emit, mov-imm64, load, store, if-not-0, Emission, continue, terminate, none, calls-first, then-store-rd}
+use Rattle.emit_native.specs.Calls.{Call, emit, mov-imm64, load, store, if-not-0, Emission, continue, terminate, none, calls-first, then-store-rd}
 
 unfoldable pub lui : ℕ → Decoded32 → Emission
 lui instr d = continue (if-not-0 (d .rd) (mov-imm64 11 (imm-u instr) ∷ store 11 (d .rd) ∷ []))
 
 unfoldable pub auipc : ℕ → ℕ → Decoded32 → Emission
-auipc pc instr d = continue (if-not-0 (d .rd) (mov-imm64 11 (add pc (imm-u instr)) ∷ store 11 (d .rd) ∷ []))
+auipc pc instr d = continue (if-not-0 (d .rd) (mov-imm64 11 (Word.add pc (imm-u instr)) ∷ store 11 (d .rd) ∷ []))
 
 unfoldable pub jal : ℕ → ℕ → Decoded32 → Emission
 jal pc instr d =
     terminate
-    (if-not-0 (d .rd) (mov-imm64 11 (add pc 4) ∷ store 11 (d .rd) ∷ [])
-    ++ (mov-imm64 0 (add pc (imm-j instr)) ∷ []))
+    (if-not-0 (d .rd) (mov-imm64 11 (Word.add pc 4) ∷ store 11 (d .rd) ∷ [])
+    ++ (mov-imm64 0 (Word.add pc (imm-j instr)) ∷ []))
 
 unfoldable pub jalr : ℕ → ℕ → Decoded32 → Emission
 jalr pc instr d =
     terminate
     (load 9 (d .rs1)
-    ∷ (if-not-0 (d .rd) (mov-imm64 11 (add pc 4) ∷ store 11 (d .rd) ∷ [])
+    ∷ (if-not-0 (d .rd) (mov-imm64 11 (Word.add pc 4) ∷ store 11 (d .rd) ∷ [])
     ++ (mov-imm64 10 (imm-i instr)
     ∷ emit (add-x 11 9 10)
     ∷ mov-imm64 12 not-1
@@ -40,8 +40,8 @@ branch-on pc instr d condition =
     (load 9 (d .rs1)
     ∷ load 10 (d .rs2)
     ∷ emit (cmp-x 9 10)
-    ∷ mov-imm64 12 (add pc (imm-b instr))
-    ∷ mov-imm64 13 (add pc 4)
+    ∷ mov-imm64 12 (Word.add pc (imm-b instr))
+    ∷ mov-imm64 13 (Word.add pc 4)
     ∷ emit (csel-x 0 12 13 condition)
     ∷ [])
 
@@ -55,27 +55,167 @@ branch pc instr d funct3 =
     (cond (eqb funct3 F3-BGEU) (branch-on pc instr d C-CS)
     (none []))))))
 
+-- ---- what the arithmetic instructions emit, from X9 and X10 into X11
+
+-- What several arms have in common, by the name of the function that emits it.
+
+-- X11 is 1 where the comparison of X9 and X10 meets the condition, and else 0
+abbrev pub compared : ℕ → List Call
+compared condition = emit (cmp-x 9 10) ∷ mov-imm64 12 1 ∷ mov-imm64 13 0 ∷ emit (csel-x 11 12 13 condition) ∷ []
+
+-- X11 is all ones where the divisor is 0
+abbrev pub zero-divisor : ℕ → ℕ → List Call
+zero-divisor z ones = mov-imm64 z 0 ∷ emit (cmp-x 10 z) ∷ mov-imm64 ones u64-MAX ∷ emit (csel-x 11 ones 11 C-EQ) ∷ []
+
+-- X11 is the remainder of the division w into Xq, or the dividend where the divisor is 0
+abbrev pub remainder : ℕ → ℕ → ℕ → List Call
+remainder w q z =
+    emit w ∷ emit (mul-x q q 10) ∷ emit (sub-x 11 9 q) ∷ mov-imm64 z 0 ∷ emit (cmp-x 10 z) ∷ emit (csel-x 11 9 11 C-EQ) ∷ []
+
+-- Xd is 1 where Xn is the value, and else 0
+abbrev pub is-value : ℕ → ℕ → ℕ → ℕ → List Call
+is-value rn value rd z =
+    mov-imm64 12 value ∷ emit (cmp-x rn 12) ∷ mov-imm64 rd 1 ∷ mov-imm64 z 0 ∷ emit (csel-x rd rd z C-EQ) ∷ []
+
+-- whether X9 is the least signed number and X10 is -1, as EQ
+abbrev pub overflow : List Call
+overflow =
+    is-value 9 i64-MIN 14 15 ++ is-value 10 u64-MAX 15 16 ++ emit (and-x 14 14 15) ∷ mov-imm64 16 1 ∷ emit (cmp-x 14 16) ∷ []
+
+-- X11, sign-extended from 32 bits; X9 and X10, sign-extended, and with zeros above
+abbrev pub sxtw : List Call
+sxtw = emit (sxtw-x 11 11) ∷ []
+
+abbrev pub sign-extended : List Call
+sign-extended = emit (sxtw-x 9 9) ∷ emit (sxtw-x 10 10) ∷ []
+
+abbrev pub zero-extended : List Call
+zero-extended = mov-imm64 12 0xFFFFFFFF ∷ emit (and-x 9 9 12) ∷ emit (and-x 10 10 12) ∷ []
+
+-- a shift's count: the low five bits of X10
+abbrev pub low-count : ℕ → List Call
+low-count mask = mov-imm64 mask 31 ∷ emit (and-x 10 10 mask) ∷ []
+
+-- The arms of OPCODE_OP.
+
+abbrev pub add : List Call
+add = emit (add-x 11 9 10) ∷ []
+
+abbrev pub sub : List Call
+sub = emit (sub-x 11 9 10) ∷ []
+
+abbrev pub slt : List Call
+slt = compared C-LT
+
+abbrev pub sltu : List Call
+sltu = compared C-CC
+
+abbrev pub and : List Call
+and = emit (and-x 11 9 10) ∷ []
+
+abbrev pub or : List Call
+or = emit (orr-x 11 9 10) ∷ []
+
+abbrev pub xor : List Call
+xor = emit (eor-x 11 9 10) ∷ []
+
+abbrev pub sll : List Call
+sll = emit (lslv-x 11 9 10) ∷ []
+
+abbrev pub srl : List Call
+srl = emit (lsrv-x 11 9 10) ∷ []
+
+abbrev pub sra : List Call
+sra = emit (asrv-x 11 9 10) ∷ []
+
+abbrev pub mul : List Call
+mul = emit (mul-x 11 9 10) ∷ []
+
+abbrev pub mulh : List Call
+mulh = emit (smulh-x 11 9 10) ∷ []
+
+abbrev pub mulhsu : List Call
+mulhsu =
+    emit (umulh-x 11 9 10)
+    ∷ mov-imm64 12 0
+    ∷ emit (cmp-x 9 12)
+    ∷ mov-imm64 13 0
+    ∷ emit (csel-x 12 10 13 C-MI)
+    ∷ emit (sub-x 11 11 12)
+    ∷ []
+
+abbrev pub mulhu : List Call
+mulhu = emit (umulh-x 11 9 10) ∷ []
+
+abbrev pub div : List Call
+div = emit (sdiv-x 11 9 10) ∷ zero-divisor 12 13 ++ overflow ++ emit (csel-x 11 9 11 C-EQ) ∷ []
+
+abbrev pub divu : List Call
+divu = emit (udiv-x 11 9 10) ∷ zero-divisor 12 13
+
+abbrev pub rem : List Call
+rem = remainder (sdiv-x 12 9 10) 12 13 ++ overflow ++ mov-imm64 17 0 ∷ emit (csel-x 11 17 11 C-EQ) ∷ []
+
+abbrev pub remu : List Call
+remu = remainder (udiv-x 12 9 10) 12 13
+
+-- The arms of OPCODE_OP_32; slliw, srliw and sraiw are the arms of OPCODE_OP_IMM_32 whose count is in X10.
+
+abbrev pub addw : List Call
+addw = add ++ sxtw
+
+abbrev pub subw : List Call
+subw = sub ++ sxtw
+
+abbrev pub slliw : List Call
+slliw = sll ++ sxtw
+
+abbrev pub srliw : List Call
+srliw = mov-imm64 12 0xFFFFFFFF ∷ emit (and-x 11 9 12) ∷ emit (lsrv-x 11 11 10) ∷ sxtw
+
+abbrev pub sraiw : List Call
+sraiw = emit (sxtw-x 11 9) ∷ emit (asrv-x 11 11 10) ∷ sxtw
+
+abbrev pub sllw : List Call
+sllw = low-count 12 ++ slliw
+
+abbrev pub srlw : List Call
+srlw = mov-imm64 12 0xFFFFFFFF ∷ emit (and-x 11 9 12) ∷ low-count 13 ++ emit (lsrv-x 11 11 10) ∷ sxtw
+
+abbrev pub sraw : List Call
+sraw = emit (sxtw-x 11 9) ∷ low-count 12 ++ emit (asrv-x 11 11 10) ∷ sxtw
+
+abbrev pub mulw : List Call
+mulw = mul ++ sxtw
+
+abbrev pub divw : List Call
+divw = sign-extended ++ emit (sdiv-x 11 9 10) ∷ zero-divisor 12 13 ++ sxtw
+
+abbrev pub divuw : List Call
+divuw = zero-extended ++ emit (udiv-x 11 9 10) ∷ zero-divisor 13 14 ++ sxtw
+
+abbrev pub remw : List Call
+remw = sign-extended ++ remainder (sdiv-x 12 9 10) 12 13 ++ sxtw
+
+abbrev pub remuw : List Call
+remuw = zero-extended ++ remainder (udiv-x 13 9 10) 13 14 ++ sxtw
+
 -- ---- OPCODE_OP_IMM: `match funct3`, with imm for `Self::imm_i(instr) as u64`
 
 unfoldable pub op-imm-arm : ℕ → ℕ → ℕ → Emission
 op-imm-arm imm imm12 funct3 =
     let imm-hi = imm12 / 2 ^ 6 % 64 in
-    cond (eqb funct3 F3-ADD-SUB) (continue (mov-imm64 10 imm ∷ emit (add-x 11 9 10) ∷ []))
-    (cond (eqb funct3 F3-SLT)
-    (continue
-    (mov-imm64 10 imm ∷ emit (cmp-x 9 10) ∷ mov-imm64 12 1 ∷ mov-imm64 13 0 ∷ emit (csel-x 11 12 13 C-LT) ∷ []))
-    (cond (eqb funct3 F3-SLTU)
-    (continue
-    (mov-imm64 10 imm ∷ emit (cmp-x 9 10) ∷ mov-imm64 12 1 ∷ mov-imm64 13 0 ∷ emit (csel-x 11 12 13 C-CC) ∷ []))
-    (cond (eqb funct3 F3-XOR) (continue (mov-imm64 10 imm ∷ emit (eor-x 11 9 10) ∷ []))
-    (cond (eqb funct3 F3-OR) (continue (mov-imm64 10 imm ∷ emit (orr-x 11 9 10) ∷ []))
-    (cond (eqb funct3 F3-AND) (continue (mov-imm64 10 imm ∷ emit (and-x 11 9 10) ∷ []))
-    (cond (eqb funct3 F3-SLL)
-    (cond (eqb imm-hi 0) (continue (mov-imm64 10 (imm12 % 64) ∷ emit (lslv-x 11 9 10) ∷ [])) (none []))
+    cond (eqb funct3 F3-ADD-SUB) (continue (mov-imm64 10 imm ∷ add))
+    (cond (eqb funct3 F3-SLT) (continue (mov-imm64 10 imm ∷ slt))
+    (cond (eqb funct3 F3-SLTU) (continue (mov-imm64 10 imm ∷ sltu))
+    (cond (eqb funct3 F3-XOR) (continue (mov-imm64 10 imm ∷ xor))
+    (cond (eqb funct3 F3-OR) (continue (mov-imm64 10 imm ∷ or))
+    (cond (eqb funct3 F3-AND) (continue (mov-imm64 10 imm ∷ and))
+    (cond (eqb funct3 F3-SLL) (cond (eqb imm-hi 0) (continue (mov-imm64 10 (imm12 % 64) ∷ sll)) (none []))
     (cond (eqb funct3 F3-SRL-SRA)
     (calls-first (mov-imm64 10 (imm12 % 64) ∷ [])
-    (cond (eqb imm-hi 0x00) (continue (emit (lsrv-x 11 9 10) ∷ []))
-    (cond (eqb imm-hi 0x10) (continue (emit (asrv-x 11 9 10) ∷ []))
+    (cond (eqb imm-hi 0x00) (continue srl)
+    (cond (eqb imm-hi 0x10) (continue sra)
     (none []))))
     (none []))))))))
 
@@ -86,18 +226,12 @@ op-imm instr d = calls-first (load 9 (d .rs1) ∷ []) (then-store-rd (d .rd) (op
 
 unfoldable pub op-imm-32-arm : ℕ → ℕ → ℕ → ℕ → Emission
 op-imm-32-arm imm imm12 funct7 funct3 =
-    cond (eqb funct3 F3-ADD-SUB) (continue (mov-imm64 10 imm ∷ emit (add-x 11 9 10) ∷ emit (sxtw-x 11 11) ∷ []))
-    (cond (eqb funct3 F3-SLL)
-    (cond (eqb funct7 F7-BASE)
-    (continue (mov-imm64 10 (imm12 % 32) ∷ emit (lslv-x 11 9 10) ∷ emit (sxtw-x 11 11) ∷ []))
-    (none []))
+    cond (eqb funct3 F3-ADD-SUB) (continue (mov-imm64 10 imm ∷ addw))
+    (cond (eqb funct3 F3-SLL) (cond (eqb funct7 F7-BASE) (continue (mov-imm64 10 (imm12 % 32) ∷ slliw)) (none []))
     (cond (eqb funct3 F3-SRL-SRA)
     (calls-first (mov-imm64 10 (imm12 % 32) ∷ [])
-    (cond (eqb funct7 F7-BASE)
-    (continue
-    (mov-imm64 12 0xFFFFFFFF ∷ emit (and-x 11 9 12) ∷ emit (lsrv-x 11 11 10) ∷ emit (sxtw-x 11 11) ∷ []))
-    (cond (eqb funct7 F7-SUB-SRA)
-    (continue (emit (sxtw-x 11 9) ∷ emit (asrv-x 11 11 10) ∷ emit (sxtw-x 11 11) ∷ []))
+    (cond (eqb funct7 F7-BASE) (continue srliw)
+    (cond (eqb funct7 F7-SUB-SRA) (continue sraiw)
     (none []))))
     (none [])))
 
@@ -106,192 +240,66 @@ op-imm-32 instr d =
     calls-first (load 9 (d .rs1) ∷ [])
     (then-store-rd (d .rd) (op-imm-32-arm (imm-i instr) (d .imm12) (d .funct7) (d .funct3)))
 
--- ---- OPCODE_OP_32: `match (funct7, funct3)`
+-- ---- OPCODE_OP_32 and OPCODE_OP: `match (funct7, funct3)`
+
+-- an arm is a row (funct7, funct3, what it emits), in the Rust's order; any other pair is a `return None`
+abbrev pub Arms : Type 0
+Arms = List (ℕ × ℕ × List Call)
+
+abbrev pub arm : Arms → ℕ → ℕ → Emission
+arm [] funct7 funct3 = none []
+arm ((f7, f3, cs) ∷ arms) funct7 funct3 = cond (eqb funct7 f7 && eqb funct3 f3) (continue cs) (arm arms funct7 funct3)
+
+abbrev pub ops-32 : Arms
+ops-32 =
+    (F7-BASE, F3-ADD-SUB, addw)
+    ∷ (F7-SUB-SRA, F3-ADD-SUB, subw)
+    ∷ (F7-BASE, F3-SLL, sllw)
+    ∷ (F7-BASE, F3-SRL-SRA, srlw)
+    ∷ (F7-SUB-SRA, F3-SRL-SRA, sraw)
+    ∷ (F7-MULDIV, F3-ADD-SUB, mulw)
+    ∷ (F7-MULDIV, F3-XOR, divw)
+    ∷ (F7-MULDIV, F3-SRL-SRA, divuw)
+    ∷ (F7-MULDIV, F3-OR, remw)
+    ∷ (F7-MULDIV, F3-AND, remuw)
+    ∷ []
 
 unfoldable pub op-32-arm : ℕ → ℕ → Emission
-op-32-arm funct7 funct3 =
-    cond (eqb funct7 F7-BASE && eqb funct3 F3-ADD-SUB) (continue (emit (add-x 11 9 10) ∷ emit (sxtw-x 11 11) ∷ []))
-    (cond (eqb funct7 F7-SUB-SRA && eqb funct3 F3-ADD-SUB) (continue (emit (sub-x 11 9 10) ∷ emit (sxtw-x 11 11) ∷ []))
-    (cond (eqb funct7 F7-BASE && eqb funct3 F3-SLL)
-    (continue
-    (mov-imm64 12 31 ∷ emit (and-x 10 10 12) ∷ emit (lslv-x 11 9 10) ∷ emit (sxtw-x 11 11) ∷ []))
-    (cond (eqb funct7 F7-BASE && eqb funct3 F3-SRL-SRA)
-    (continue
-    (mov-imm64 12 0xFFFFFFFF
-    ∷ emit (and-x 11 9 12)
-    ∷ mov-imm64 13 31
-    ∷ emit (and-x 10 10 13)
-    ∷ emit (lsrv-x 11 11 10)
-    ∷ emit (sxtw-x 11 11)
-    ∷ []))
-    (cond (eqb funct7 F7-SUB-SRA && eqb funct3 F3-SRL-SRA)
-    (continue
-    (emit (sxtw-x 11 9)
-    ∷ mov-imm64 12 31
-    ∷ emit (and-x 10 10 12)
-    ∷ emit (asrv-x 11 11 10)
-    ∷ emit (sxtw-x 11 11)
-    ∷ []))
-    -- MULW
-    (cond (eqb funct7 F7-MULDIV && eqb funct3 F3-ADD-SUB) (continue (emit (mul-x 11 9 10) ∷ emit (sxtw-x 11 11) ∷ []))
-    -- DIVW
-    (cond (eqb funct7 F7-MULDIV && eqb funct3 F3-XOR)
-    (continue
-    (emit (sxtw-x 9 9)
-    ∷ emit (sxtw-x 10 10)
-    ∷ emit (sdiv-x 11 9 10)
-    ∷ mov-imm64 12 0
-    ∷ emit (cmp-x 10 12)
-    ∷ mov-imm64 13 u64-MAX
-    ∷ emit (csel-x 11 13 11 C-EQ)
-    ∷ emit (sxtw-x 11 11)
-    ∷ []))
-    -- DIVUW
-    (cond (eqb funct7 F7-MULDIV && eqb funct3 F3-SRL-SRA)
-    (continue
-    (mov-imm64 12 0xFFFFFFFF
-    ∷ emit (and-x 9 9 12)
-    ∷ emit (and-x 10 10 12)
-    ∷ emit (udiv-x 11 9 10)
-    ∷ mov-imm64 13 0
-    ∷ emit (cmp-x 10 13)
-    ∷ mov-imm64 14 u64-MAX
-    ∷ emit (csel-x 11 14 11 C-EQ)
-    ∷ emit (sxtw-x 11 11)
-    ∷ []))
-    -- REMW
-    (cond (eqb funct7 F7-MULDIV && eqb funct3 F3-OR)
-    (continue
-    (emit (sxtw-x 9 9)
-    ∷ emit (sxtw-x 10 10)
-    ∷ emit (sdiv-x 12 9 10)
-    ∷ emit (mul-x 12 12 10)
-    ∷ emit (sub-x 11 9 12)
-    ∷ mov-imm64 13 0
-    ∷ emit (cmp-x 10 13)
-    ∷ emit (csel-x 11 9 11 C-EQ)
-    ∷ emit (sxtw-x 11 11)
-    ∷ []))
-    -- REMUW
-    (cond (eqb funct7 F7-MULDIV && eqb funct3 F3-AND)
-    (continue
-    (mov-imm64 12 0xFFFFFFFF
-    ∷ emit (and-x 9 9 12)
-    ∷ emit (and-x 10 10 12)
-    ∷ emit (udiv-x 13 9 10)
-    ∷ emit (mul-x 13 13 10)
-    ∷ emit (sub-x 11 9 13)
-    ∷ mov-imm64 14 0
-    ∷ emit (cmp-x 10 14)
-    ∷ emit (csel-x 11 9 11 C-EQ)
-    ∷ emit (sxtw-x 11 11)
-    ∷ []))
-    (none []))))))))))
+op-32-arm funct7 funct3 = arm ops-32 funct7 funct3
 
 unfoldable pub op-32 : Decoded32 → Emission
 op-32 d =
     calls-first (load 9 (d .rs1) ∷ load 10 (d .rs2) ∷ []) (then-store-rd (d .rd) (op-32-arm (d .funct7) (d .funct3)))
 
--- ---- OPCODE_OP: `match (funct7, funct3)`
+abbrev pub ops : Arms
+ops =
+    (F7-BASE, F3-ADD-SUB, add)
+    ∷ (F7-SUB-SRA, F3-ADD-SUB, sub)
+    ∷ (F7-BASE, F3-SLT, slt)
+    ∷ (F7-BASE, F3-SLTU, sltu)
+    ∷ (F7-BASE, F3-AND, and)
+    ∷ (F7-BASE, F3-OR, or)
+    ∷ (F7-BASE, F3-XOR, xor)
+    ∷ (F7-BASE, F3-SLL, sll)
+    ∷ (F7-BASE, F3-SRL-SRA, srl)
+    ∷ (F7-SUB-SRA, F3-SRL-SRA, sra)
+    ∷ (F7-MULDIV, F3-ADD-SUB, mul)
+    ∷ (F7-MULDIV, F3-SLL, mulh)
+    ∷ (F7-MULDIV, F3-SLT, mulhsu)
+    ∷ (F7-MULDIV, F3-SLTU, mulhu)
+    ∷ (F7-MULDIV, F3-XOR, div)
+    ∷ (F7-MULDIV, F3-SRL-SRA, divu)
+    ∷ (F7-MULDIV, F3-OR, rem)
+    ∷ (F7-MULDIV, F3-AND, remu)
+    ∷ []
 
 unfoldable pub op-arm : ℕ → ℕ → Emission
-op-arm funct7 funct3 =
-    cond (eqb funct7 F7-BASE && eqb funct3 F3-ADD-SUB) (continue (emit (add-x 11 9 10) ∷ []))
-    (cond (eqb funct7 F7-SUB-SRA && eqb funct3 F3-ADD-SUB) (continue (emit (sub-x 11 9 10) ∷ []))
-    (cond (eqb funct7 F7-BASE && eqb funct3 F3-SLT)
-    (continue (emit (cmp-x 9 10) ∷ mov-imm64 12 1 ∷ mov-imm64 13 0 ∷ emit (csel-x 11 12 13 C-LT) ∷ []))
-    (cond (eqb funct7 F7-BASE && eqb funct3 F3-SLTU)
-    (continue (emit (cmp-x 9 10) ∷ mov-imm64 12 1 ∷ mov-imm64 13 0 ∷ emit (csel-x 11 12 13 C-CC) ∷ []))
-    (cond (eqb funct7 F7-BASE && eqb funct3 F3-AND) (continue (emit (and-x 11 9 10) ∷ []))
-    (cond (eqb funct7 F7-BASE && eqb funct3 F3-OR) (continue (emit (orr-x 11 9 10) ∷ []))
-    (cond (eqb funct7 F7-BASE && eqb funct3 F3-XOR) (continue (emit (eor-x 11 9 10) ∷ []))
-    (cond (eqb funct7 F7-BASE && eqb funct3 F3-SLL) (continue (emit (lslv-x 11 9 10) ∷ []))
-    (cond (eqb funct7 F7-BASE && eqb funct3 F3-SRL-SRA) (continue (emit (lsrv-x 11 9 10) ∷ []))
-    (cond (eqb funct7 F7-SUB-SRA && eqb funct3 F3-SRL-SRA) (continue (emit (asrv-x 11 9 10) ∷ []))
-    (cond (eqb funct7 F7-MULDIV && eqb funct3 F3-ADD-SUB) (continue (emit (mul-x 11 9 10) ∷ []))
-    (cond (eqb funct7 F7-MULDIV && eqb funct3 F3-SLL) (continue (emit (smulh-x 11 9 10) ∷ []))
-    -- MULHSU
-    (cond (eqb funct7 F7-MULDIV && eqb funct3 F3-SLT)
-    (continue
-    (emit (umulh-x 11 9 10)
-    ∷ mov-imm64 12 0
-    ∷ emit (cmp-x 9 12)
-    ∷ mov-imm64 13 0
-    ∷ emit (csel-x 12 10 13 C-MI)
-    ∷ emit (sub-x 11 11 12)
-    ∷ []))
-    (cond (eqb funct7 F7-MULDIV && eqb funct3 F3-SLTU) (continue (emit (umulh-x 11 9 10) ∷ []))
-    -- DIV
-    (cond (eqb funct7 F7-MULDIV && eqb funct3 F3-XOR)
-    (continue
-    (emit (sdiv-x 11 9 10)
-    ∷ mov-imm64 12 0
-    ∷ emit (cmp-x 10 12)
-    ∷ mov-imm64 13 u64-MAX
-    ∷ emit (csel-x 11 13 11 C-EQ)
-    ∷ mov-imm64 12 i64-MIN
-    ∷ emit (cmp-x 9 12)
-    ∷ mov-imm64 14 1
-    ∷ mov-imm64 15 0
-    ∷ emit (csel-x 14 14 15 C-EQ)
-    ∷ mov-imm64 12 u64-MAX
-    ∷ emit (cmp-x 10 12)
-    ∷ mov-imm64 15 1
-    ∷ mov-imm64 16 0
-    ∷ emit (csel-x 15 15 16 C-EQ)
-    ∷ emit (and-x 14 14 15)
-    ∷ mov-imm64 16 1
-    ∷ emit (cmp-x 14 16)
-    ∷ emit (csel-x 11 9 11 C-EQ)
-    ∷ []))
-    -- DIVU
-    (cond (eqb funct7 F7-MULDIV && eqb funct3 F3-SRL-SRA)
-    (continue
-    (emit (udiv-x 11 9 10)
-    ∷ mov-imm64 12 0
-    ∷ emit (cmp-x 10 12)
-    ∷ mov-imm64 13 u64-MAX
-    ∷ emit (csel-x 11 13 11 C-EQ)
-    ∷ []))
-    -- REM
-    (cond (eqb funct7 F7-MULDIV && eqb funct3 F3-OR)
-    (continue
-    (emit (sdiv-x 12 9 10)
-    ∷ emit (mul-x 12 12 10)
-    ∷ emit (sub-x 11 9 12)
-    ∷ mov-imm64 13 0
-    ∷ emit (cmp-x 10 13)
-    ∷ emit (csel-x 11 9 11 C-EQ)
-    ∷ mov-imm64 12 i64-MIN
-    ∷ emit (cmp-x 9 12)
-    ∷ mov-imm64 14 1
-    ∷ mov-imm64 15 0
-    ∷ emit (csel-x 14 14 15 C-EQ)
-    ∷ mov-imm64 12 u64-MAX
-    ∷ emit (cmp-x 10 12)
-    ∷ mov-imm64 15 1
-    ∷ mov-imm64 16 0
-    ∷ emit (csel-x 15 15 16 C-EQ)
-    ∷ emit (and-x 14 14 15)
-    ∷ mov-imm64 16 1
-    ∷ emit (cmp-x 14 16)
-    ∷ mov-imm64 17 0
-    ∷ emit (csel-x 11 17 11 C-EQ)
-    ∷ []))
-    -- REMU
-    (cond (eqb funct7 F7-MULDIV && eqb funct3 F3-AND)
-    (continue
-    (emit (udiv-x 12 9 10)
-    ∷ emit (mul-x 12 12 10)
-    ∷ emit (sub-x 11 9 12)
-    ∷ mov-imm64 13 0
-    ∷ emit (cmp-x 10 13)
-    ∷ emit (csel-x 11 9 11 C-EQ)
-    ∷ []))
-    (none []))))))))))))))))))
+op-arm funct7 funct3 = arm ops funct7 funct3
 
 unfoldable pub op : Decoded32 → Emission
 op d = calls-first (load 9 (d .rs1) ∷ load 10 (d .rs2) ∷ []) (then-store-rd (d .rd) (op-arm (d .funct7) (d .funct3)))
+
+-- ---- OPCODE_MISC_MEM
 
 unfoldable pub misc-mem : Decoded32 → Emission
 misc-mem d = cond (eqb (d .funct3) F3-FENCE || eqb (d .funct3) F3-FENCE-I) (continue []) (none [])

@@ -1,14 +1,11 @@
 // The arms of OPCODE_OP: from X9 and X10 into X11. What several arms share stands first.
 ghost use mathlib.Core.Path.{_≡_};
-ghost use mathlib.Core.List.{[], _∷_};
 ghost use Prim.Native.Nat.{ℕ, _<_};
 ghost use Rattle.a64.specs.Parts.{held, emitted-all};
 ghost use Rattle.isa.specs.Isa.{F7-BASE, F7-SUB-SRA, F7-MULDIV};
-ghost use Rattle.emit_native.specs.Hart.{C-EQ, C-MI, u64-MAX, i64-MIN};
-ghost use Rattle.a64.specs.Writers.{sub-x, and-x, mul-x, umulh-x, cmp-x, csel-x};
-ghost use Rattle.emit_native.specs.Calls.{Call, groups};
+ghost use Rattle.emit_native.specs.Calls.{groups};
 ghost use Rattle.emit_native.specs.Parts.{Emits};
-ghost use Rattle.emit_native.specs.Instr32.{op-arm};
+ghost use Rattle.emit_native.specs.Instr32.{compared, zero-divisor, remainder, is-value, overflow, mulhsu, op-arm};
 use crate::Emitted;
 use crate::calls::go_on;
 use crate::calls::none;
@@ -26,7 +23,7 @@ pub const C_LT: u8 = 0xB;
 // X11 is 1 where the comparison of X9 and X10 meets the condition, and else 0.
 pub fn emit_compared(em: InstrEmitter, condition: u8) -> InstrEmitter
     requires { ⌜ condition < 16 ⌝ }
-    ensures { λ r. ⌜ held r ≡ emitted-all (held em) (groups 0 (Call.emit (cmp-x 9 10) ∷ Call.mov-imm64 12 1 ∷ Call.mov-imm64 13 0 ∷ Call.emit (csel-x 11 12 13 condition) ∷ [])) ⌝ }
+    ensures { λ r. ⌜ held r ≡ emitted-all (held em) (groups 0 (compared condition)) ⌝ }
 {
     let em = em.emit(A64Emitter::cmp_x(9, 10));
     let em = em.mov_imm64(12, 1);
@@ -37,7 +34,7 @@ pub fn emit_compared(em: InstrEmitter, condition: u8) -> InstrEmitter
 // X11 is all ones where the divisor X10 is 0.
 pub fn emit_zero_divisor(em: InstrEmitter, zero: u8, ones: u8) -> InstrEmitter
     requires { ⌜ (zero < 32) × (ones < 32) ⌝ }
-    ensures { λ r. ⌜ held r ≡ emitted-all (held em) (groups 0 (Call.mov-imm64 zero 0 ∷ Call.emit (cmp-x 10 zero) ∷ Call.mov-imm64 ones u64-MAX ∷ Call.emit (csel-x 11 ones 11 C-EQ) ∷ [])) ⌝ }
+    ensures { λ r. ⌜ held r ≡ emitted-all (held em) (groups 0 (zero-divisor zero ones)) ⌝ }
 {
     let em = em.mov_imm64(zero, 0);
     let em = em.emit(A64Emitter::cmp_x(10, zero));
@@ -48,7 +45,7 @@ pub fn emit_zero_divisor(em: InstrEmitter, zero: u8, ones: u8) -> InstrEmitter
 // X11 is the remainder of the division by the word w into Xq, or the dividend X9 where the divisor X10 is 0.
 pub fn emit_remainder(em: InstrEmitter, w: u32, q: u8, zero: u8) -> InstrEmitter
     requires { ⌜ (q < 32) × (zero < 32) ⌝ }
-    ensures { λ r. ⌜ held r ≡ emitted-all (held em) (groups 0 (Call.emit w ∷ Call.emit (mul-x q q 10) ∷ Call.emit (sub-x 11 9 q) ∷ Call.mov-imm64 zero 0 ∷ Call.emit (cmp-x 10 zero) ∷ Call.emit (csel-x 11 9 11 C-EQ) ∷ [])) ⌝ }
+    ensures { λ r. ⌜ held r ≡ emitted-all (held em) (groups 0 (remainder w q zero)) ⌝ }
 {
     let em = em.emit(w);
     let em = em.emit(A64Emitter::mul_x(q, q, 10));
@@ -61,7 +58,7 @@ pub fn emit_remainder(em: InstrEmitter, w: u32, q: u8, zero: u8) -> InstrEmitter
 // Xd is 1 where Xn is the value, and else 0.
 fn emit_is_value(em: InstrEmitter, rn: u8, value: u64, rd: u8, zero: u8) -> InstrEmitter
     requires { ⌜ (rn < 32) × (rd < 32) × (zero < 32) ⌝ }
-    ensures { λ r. ⌜ held r ≡ emitted-all (held em) (groups 0 (Call.mov-imm64 12 value ∷ Call.emit (cmp-x rn 12) ∷ Call.mov-imm64 rd 1 ∷ Call.mov-imm64 zero 0 ∷ Call.emit (csel-x rd rd zero C-EQ) ∷ [])) ⌝ }
+    ensures { λ r. ⌜ held r ≡ emitted-all (held em) (groups 0 (is-value rn value rd zero)) ⌝ }
 {
     let em = em.mov_imm64(12, value);
     let em = em.emit(A64Emitter::cmp_x(rn, 12));
@@ -72,7 +69,7 @@ fn emit_is_value(em: InstrEmitter, rn: u8, value: u64, rd: u8, zero: u8) -> Inst
 
 // Whether X9 is the least signed number and X10 is -1, as EQ.
 fn emit_overflow(em: InstrEmitter) -> InstrEmitter
-    ensures { λ r. ⌜ held r ≡ emitted-all (held em) (groups 0 (Call.mov-imm64 12 i64-MIN ∷ Call.emit (cmp-x 9 12) ∷ Call.mov-imm64 14 1 ∷ Call.mov-imm64 15 0 ∷ Call.emit (csel-x 14 14 15 C-EQ) ∷ Call.mov-imm64 12 u64-MAX ∷ Call.emit (cmp-x 10 12) ∷ Call.mov-imm64 15 1 ∷ Call.mov-imm64 16 0 ∷ Call.emit (csel-x 15 15 16 C-EQ) ∷ Call.emit (and-x 14 14 15) ∷ Call.mov-imm64 16 1 ∷ Call.emit (cmp-x 14 16) ∷ [])) ⌝ }
+    ensures { λ r. ⌜ held r ≡ emitted-all (held em) (groups 0 overflow) ⌝ }
 {
     let em = emit_is_value(em, 9, 0x8000_0000_0000_0000, 14, 15);
     let em = emit_is_value(em, 10, 0xFFFF_FFFF_FFFF_FFFF, 15, 16);
@@ -108,7 +105,7 @@ fn emit_op_sub_sra(em: InstrEmitter, funct3: u32) -> Emitted
 }
 
 fn emit_mulhsu(em: InstrEmitter) -> InstrEmitter
-    ensures { λ r. ⌜ held r ≡ emitted-all (held em) (groups 0 (Call.emit (umulh-x 11 9 10) ∷ Call.mov-imm64 12 0 ∷ Call.emit (cmp-x 9 12) ∷ Call.mov-imm64 13 0 ∷ Call.emit (csel-x 12 10 13 C-MI) ∷ Call.emit (sub-x 11 11 12) ∷ [])) ⌝ }
+    ensures { λ r. ⌜ held r ≡ emitted-all (held em) (groups 0 mulhsu) ⌝ }
 {
     let em = em.emit(A64Emitter::umulh_x(11, 9, 10));
     let em = em.mov_imm64(12, 0);

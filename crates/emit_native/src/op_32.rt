@@ -1,13 +1,11 @@
 // The arms of OPCODE_OP_32: from X9 and X10 into X11.
 ghost use mathlib.Core.Path.{_≡_};
-ghost use mathlib.Core.List.{[], _∷_};
 ghost use Prim.Native.Nat.{ℕ, _<_};
 ghost use Rattle.a64.specs.Parts.{held, emitted-all};
 ghost use Rattle.isa.specs.Isa.{F7-BASE, F7-SUB-SRA, F7-MULDIV};
-ghost use Rattle.a64.specs.Writers.{and-x, sxtw-x};
-ghost use Rattle.emit_native.specs.Calls.{Call, groups};
+ghost use Rattle.emit_native.specs.Calls.{groups};
 ghost use Rattle.emit_native.specs.Parts.{Emits};
-ghost use Rattle.emit_native.specs.Instr32.{op-32-arm};
+ghost use Rattle.emit_native.specs.Instr32.{sxtw, low-count, sign-extended, zero-extended, op-32-arm};
 use crate::Emitted;
 use crate::calls::go_on;
 use crate::calls::none;
@@ -18,7 +16,7 @@ use a64::InstrEmitter;
 
 // X11 is a word, sign-extended.
 pub fn emit_sxtw(em: InstrEmitter) -> InstrEmitter
-    ensures { λ r. ⌜ held r ≡ emitted-all (held em) (groups 0 (Call.emit (sxtw-x 11 11) ∷ [])) ⌝ }
+    ensures { λ r. ⌜ held r ≡ emitted-all (held em) (groups 0 sxtw) ⌝ }
 {
     em.emit(A64Emitter::sxtw_x(11, 11))
 }
@@ -26,7 +24,7 @@ pub fn emit_sxtw(em: InstrEmitter) -> InstrEmitter
 // The shift's count is the low five bits of X10.
 fn emit_low_count(em: InstrEmitter, mask: u8) -> InstrEmitter
     requires { ⌜ mask < 32 ⌝ }
-    ensures { λ r. ⌜ held r ≡ emitted-all (held em) (groups 0 (Call.mov-imm64 mask 31 ∷ Call.emit (and-x 10 10 mask) ∷ [])) ⌝ }
+    ensures { λ r. ⌜ held r ≡ emitted-all (held em) (groups 0 (low-count mask)) ⌝ }
 {
     let em = em.mov_imm64(mask, 31);
     em.emit(A64Emitter::and_x(10, 10, mask))
@@ -34,7 +32,7 @@ fn emit_low_count(em: InstrEmitter, mask: u8) -> InstrEmitter
 
 // X9 and X10 are words, sign-extended.
 fn emit_sign_extended(em: InstrEmitter) -> InstrEmitter
-    ensures { λ r. ⌜ held r ≡ emitted-all (held em) (groups 0 (Call.emit (sxtw-x 9 9) ∷ Call.emit (sxtw-x 10 10) ∷ [])) ⌝ }
+    ensures { λ r. ⌜ held r ≡ emitted-all (held em) (groups 0 sign-extended) ⌝ }
 {
     let em = em.emit(A64Emitter::sxtw_x(9, 9));
     em.emit(A64Emitter::sxtw_x(10, 10))
@@ -42,7 +40,7 @@ fn emit_sign_extended(em: InstrEmitter) -> InstrEmitter
 
 // X9 and X10 are words, with zeros above.
 fn emit_zero_extended(em: InstrEmitter) -> InstrEmitter
-    ensures { λ r. ⌜ held r ≡ emitted-all (held em) (groups 0 (Call.mov-imm64 12 0xFFFFFFFF ∷ Call.emit (and-x 9 9 12) ∷ Call.emit (and-x 10 10 12) ∷ [])) ⌝ }
+    ensures { λ r. ⌜ held r ≡ emitted-all (held em) (groups 0 zero-extended) ⌝ }
 {
     let em = em.mov_imm64(12, 0xFFFF_FFFF);
     let em = em.emit(A64Emitter::and_x(9, 9, 12));

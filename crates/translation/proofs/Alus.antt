@@ -2,7 +2,7 @@
 -- the ISA says. Assumes nothing.
 use mathlib.Core.Path.{_≡_, refl, sym, ap, ap₂, _∙_}
 use mathlib.Core.Bool.{Bool, true, false, cond, not, xor, _&&_}
-use mathlib.Core.List.{List, [], _∷_}
+use mathlib.Core.List.{List}
 use Prim.Native.Nat.{ℕ, _-_, _%_, _^_, _<_}
 use native.Mathlib.Nat.{le-of-lt}
 use native.Mathlib.Omega.{arith}
@@ -17,84 +17,50 @@ use Rattle.a64_run.specs.Exec.{op-value, holds, holds-even, difference}
 use Rattle.a64_run.proofs.Flags.{difference-sub, z-law, c-law, n-law, lt-law}
 use Rattle.rv64.specs.declared.alu.Alu.{Alu}
 use Rattle.rv64.specs.Alu.{value, quotient, remainder, quotient-u, remainder-u}
-use Rattle.emit_native.specs.Hart.{C-EQ, C-CC, C-MI, C-LT, u64-MAX, i64-MIN}
-use Rattle.a64.specs.Writers.{add-x, sub-x, and-x, orr-x, eor-x, lslv-x, lsrv-x, asrv-x, mul-x, smulh-x, umulh-x, udiv-x, sdiv-x, cmp-x, csel-x, sxtw-x}
-use Rattle.emit_native.specs.Calls.{Call, emit, mov-imm64}
+use Rattle.emit_native.specs.Calls.{Call}
+use Rattle.emit_native.specs.Instr32 as E
 use Rattle.translation.proofs.Calls.{Host, form-step, call-step, calls-run}
 use Rattle.translation.proofs.Remainders.{rem-law, remu-law, mulhsu-law}
 
--- what DIV and REM have in common: X14 says whether they overflow
-abbrev overflow : List Call → List Call
-overflow cs =
-    mov-imm64 12 i64-MIN
-    ∷ emit (cmp-x 9 12)
-    ∷ mov-imm64 14 1
-    ∷ mov-imm64 15 0
-    ∷ emit (csel-x 14 14 15 C-EQ)
-    ∷ mov-imm64 12 u64-MAX
-    ∷ emit (cmp-x 10 12)
-    ∷ mov-imm64 15 1
-    ∷ mov-imm64 16 0
-    ∷ emit (csel-x 15 15 16 C-EQ)
-    ∷ emit (and-x 14 14 15)
-    ∷ mov-imm64 16 1
-    ∷ emit (cmp-x 14 16)
-    ∷ cs
-
 unfoldable pub body : Alu → List Call
-body Alu.Add = emit (add-x 11 9 10) ∷ []
-body Alu.Sub = emit (sub-x 11 9 10) ∷ []
-body Alu.Sll = emit (lslv-x 11 9 10) ∷ []
-body Alu.Slt = emit (cmp-x 9 10) ∷ mov-imm64 12 1 ∷ mov-imm64 13 0 ∷ emit (csel-x 11 12 13 C-LT) ∷ []
-body Alu.Sltu = emit (cmp-x 9 10) ∷ mov-imm64 12 1 ∷ mov-imm64 13 0 ∷ emit (csel-x 11 12 13 C-CC) ∷ []
-body Alu.Xor = emit (eor-x 11 9 10) ∷ []
-body Alu.Srl = emit (lsrv-x 11 9 10) ∷ []
-body Alu.Sra = emit (asrv-x 11 9 10) ∷ []
-body Alu.Or = emit (orr-x 11 9 10) ∷ []
-body Alu.And = emit (and-x 11 9 10) ∷ []
-body Alu.Mul = emit (mul-x 11 9 10) ∷ []
-body Alu.Mulh = emit (smulh-x 11 9 10) ∷ []
-body Alu.Mulhsu =
-    emit (umulh-x 11 9 10) ∷ mov-imm64 12 0 ∷ emit (cmp-x 9 12) ∷ mov-imm64 13 0 ∷ emit (csel-x 12 10 13 C-MI) ∷ emit (sub-x 11 11 12) ∷ []
-body Alu.Mulhu = emit (umulh-x 11 9 10) ∷ []
-body Alu.Div =
-    emit (sdiv-x 11 9 10) ∷ mov-imm64 12 0 ∷ emit (cmp-x 10 12) ∷ mov-imm64 13 u64-MAX ∷ emit (csel-x 11 13 11 C-EQ)
-    ∷ overflow (emit (csel-x 11 9 11 C-EQ) ∷ [])
-body Alu.Divu = emit (udiv-x 11 9 10) ∷ mov-imm64 12 0 ∷ emit (cmp-x 10 12) ∷ mov-imm64 13 u64-MAX ∷ emit (csel-x 11 13 11 C-EQ) ∷ []
-body Alu.Rem =
-    emit (sdiv-x 12 9 10) ∷ emit (mul-x 12 12 10) ∷ emit (sub-x 11 9 12) ∷ mov-imm64 13 0 ∷ emit (cmp-x 10 13) ∷ emit (csel-x 11 9 11 C-EQ)
-    ∷ overflow (mov-imm64 17 0 ∷ emit (csel-x 11 17 11 C-EQ) ∷ [])
-body Alu.Remu =
-    emit (udiv-x 12 9 10) ∷ emit (mul-x 12 12 10) ∷ emit (sub-x 11 9 12) ∷ mov-imm64 13 0 ∷ emit (cmp-x 10 13) ∷ emit (csel-x 11 9 11 C-EQ) ∷ []
-body Alu.Addw = emit (add-x 11 9 10) ∷ emit (sxtw-x 11 11) ∷ []
-body Alu.Subw = emit (sub-x 11 9 10) ∷ emit (sxtw-x 11 11) ∷ []
-body Alu.Sllw = mov-imm64 12 31 ∷ emit (and-x 10 10 12) ∷ emit (lslv-x 11 9 10) ∷ emit (sxtw-x 11 11) ∷ []
-body Alu.Srlw =
-    mov-imm64 12 0xFFFFFFFF ∷ emit (and-x 11 9 12) ∷ mov-imm64 13 31 ∷ emit (and-x 10 10 13) ∷ emit (lsrv-x 11 11 10) ∷ emit (sxtw-x 11 11) ∷ []
-body Alu.Sraw = emit (sxtw-x 11 9) ∷ mov-imm64 12 31 ∷ emit (and-x 10 10 12) ∷ emit (asrv-x 11 11 10) ∷ emit (sxtw-x 11 11) ∷ []
-body Alu.Mulw = emit (mul-x 11 9 10) ∷ emit (sxtw-x 11 11) ∷ []
-body Alu.Divw =
-    emit (sxtw-x 9 9) ∷ emit (sxtw-x 10 10) ∷ emit (sdiv-x 11 9 10) ∷ mov-imm64 12 0 ∷ emit (cmp-x 10 12) ∷ mov-imm64 13 u64-MAX
-    ∷ emit (csel-x 11 13 11 C-EQ) ∷ emit (sxtw-x 11 11) ∷ []
-body Alu.Divuw =
-    mov-imm64 12 0xFFFFFFFF ∷ emit (and-x 9 9 12) ∷ emit (and-x 10 10 12) ∷ emit (udiv-x 11 9 10) ∷ mov-imm64 13 0 ∷ emit (cmp-x 10 13)
-    ∷ mov-imm64 14 u64-MAX ∷ emit (csel-x 11 14 11 C-EQ) ∷ emit (sxtw-x 11 11) ∷ []
-body Alu.Remw =
-    emit (sxtw-x 9 9) ∷ emit (sxtw-x 10 10) ∷ emit (sdiv-x 12 9 10) ∷ emit (mul-x 12 12 10) ∷ emit (sub-x 11 9 12) ∷ mov-imm64 13 0
-    ∷ emit (cmp-x 10 13) ∷ emit (csel-x 11 9 11 C-EQ) ∷ emit (sxtw-x 11 11) ∷ []
-body Alu.Remuw =
-    mov-imm64 12 0xFFFFFFFF ∷ emit (and-x 9 9 12) ∷ emit (and-x 10 10 12) ∷ emit (udiv-x 13 9 10) ∷ emit (mul-x 13 13 10) ∷ emit (sub-x 11 9 13)
-    ∷ mov-imm64 14 0 ∷ emit (cmp-x 10 14) ∷ emit (csel-x 11 9 11 C-EQ) ∷ emit (sxtw-x 11 11) ∷ []
+body Alu.Add = E.add
+body Alu.Sub = E.sub
+body Alu.Sll = E.sll
+body Alu.Slt = E.slt
+body Alu.Sltu = E.sltu
+body Alu.Xor = E.xor
+body Alu.Srl = E.srl
+body Alu.Sra = E.sra
+body Alu.Or = E.or
+body Alu.And = E.and
+body Alu.Mul = E.mul
+body Alu.Mulh = E.mulh
+body Alu.Mulhsu = E.mulhsu
+body Alu.Mulhu = E.mulhu
+body Alu.Div = E.div
+body Alu.Divu = E.divu
+body Alu.Rem = E.rem
+body Alu.Remu = E.remu
+body Alu.Addw = E.addw
+body Alu.Subw = E.subw
+body Alu.Sllw = E.sllw
+body Alu.Srlw = E.srlw
+body Alu.Sraw = E.sraw
+body Alu.Mulw = E.mulw
+body Alu.Divw = E.divw
+body Alu.Divuw = E.divuw
+body Alu.Remw = E.remw
+body Alu.Remuw = E.remuw
 
 -- SLLIW, SRLIW, SRAIW: their count is below 32
 unfoldable pub slliw : List Call
-slliw = emit (lslv-x 11 9 10) ∷ emit (sxtw-x 11 11) ∷ []
+slliw = E.slliw
 
 unfoldable pub srliw : List Call
-srliw = mov-imm64 12 0xFFFFFFFF ∷ emit (and-x 11 9 12) ∷ emit (lsrv-x 11 11 10) ∷ emit (sxtw-x 11 11) ∷ []
+srliw = E.srliw
 
 unfoldable pub sraiw : List Call
-sraiw = emit (sxtw-x 11 9) ∷ emit (asrv-x 11 11 10) ∷ emit (sxtw-x 11 11) ∷ []
+sraiw = E.sraiw
 
 less-zero : (n : ℕ) → n < 2 ^ 64 → difference n 0 ≡ n
 less-zero n h = omega arith
