@@ -1,19 +1,23 @@
 // Replays Translate: document 01's marked blocks (marked.bin), and cases that emuko's Rust answered (blocks.bin).
 // rust/oracle/README.md has the format of both files.
+use emit_native::Host;
 use jit_arm64::Answer;
 use libc::STDOUT_FILENO;
 
 // Translates as the case says; `asked` is what the file has between the guest bytes and the answer.
 fn ask(guest: &[u8], asked: &[u8; 49], output: &mut [u8]) -> Answer {
+    let host = Host {
+        slot_offset: le::load64(asked, 13),
+        memory_helper: le::load64(asked, 21),
+        helper32: le::load64(asked, 29),
+        helper16: le::load64(asked, 37),
+        ignore_ebreak: asked[12] != 0,
+    };
     translation::translate(
         guest,
         le::load64(asked, 0),
         le::load32(asked, 8),
-        asked[12] != 0,
-        le::load64(asked, 13),
-        le::load64(asked, 21),
-        le::load64(asked, 29),
-        le::load64(asked, 37),
+        host,
         output,
     )
 }

@@ -1,4 +1,5 @@
 // Document 01's program: Translate on what standard input holds.
+use emit_native::Host;
 use jit_arm64::Answer;
 use libc::STDIN_FILENO;
 use libc::STDOUT_FILENO;
@@ -44,17 +45,14 @@ fn main() {
     let limit = le::load32(&input, 8);
     let flag = input[12] != 0;
     let guest = &input[13..n];
-    let mut output = [0u8; 7448];
-    let answer = translation::translate(
-        guest,
-        pc,
-        limit,
-        flag,
-        0,
-        0x10000,
-        0x20000,
-        0x30000,
-        &mut output,
-    );
+    let mut output = [0u8; 4 * rules::MAX_WORDS];
+    let host = Host {
+        slot_offset: 0,
+        memory_helper: 0x10000,
+        helper32: 0x20000,
+        helper16: 0x30000,
+        ignore_ebreak: flag,
+    };
+    let answer = translation::translate(guest, pc, limit, host, &mut output);
     print_answer(answer, &output);
 }
