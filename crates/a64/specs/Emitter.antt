@@ -3,6 +3,7 @@ use Prim.Native.Nat.{ℕ, _*_, _/_, _%_, _^_}
 use mathlib.Core.Bool.{cond}
 use mathlib.Core.List.{List, [], _∷_, _++_, map}
 use lib.Dec.{eqb}
+use Rattle.le.specs.Le.{all-bytes}
 use Rattle.a64.specs.declared.Form.{Form}
 use Rattle.a64.specs.declared.Form.the-variants.{Movz, Movk}
 use Rattle.a64.specs.Forms.{encode}
@@ -22,10 +23,6 @@ upper rd hw p = cond (eqb p 0) [] (Movk rd hw p ∷ [])
 unfoldable pub constant : ℕ → ℕ → List Form
 constant rd v = Movz rd 0 (v % 65536) ∷ (upper rd 1 (halfword 1 v) ++ (upper rd 2 (halfword 2 v) ++ upper rd 3 (halfword 3 v)))
 
--- words as bytes, lowest first
-abbrev pub word-bytes : ℕ → List ℕ
-word-bytes w = w % 256 ∷ w / 2 ^ 8 % 256 ∷ w / 2 ^ 16 % 256 ∷ w / 2 ^ 24 % 256 ∷ []
-
+-- words as bytes
 abbrev pub bytes : List ℕ → List ℕ
-bytes [] = []
-bytes (w ∷ ws) = word-bytes w ++ bytes ws
+bytes ws = all-bytes 4 ws

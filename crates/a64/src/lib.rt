@@ -3,8 +3,8 @@ ghost use mathlib.Core.Path.{_≡_};
 ghost use Prim.Native.Nat.{ℕ, _+_, _/_, _<_, _≤_, min};
 ghost use mathlib.Core.List.{[], _∷_};
 ghost use lib.ListN.{length, take};
-ghost use lib.Seq.{sets};
-ghost use Rattle.a64.specs.Emitter.{encoded, upper, constant, word-bytes};
+ghost use Rattle.le.specs.Le.{store};
+ghost use Rattle.a64.specs.Emitter.{encoded, upper, constant};
 ghost use Rattle.a64.specs.Parts.{max-words, instr-words, held, block-words, emitted-in, emitted, emitted-if, Added, Written};
 ghost use Rattle.a64.specs.Forms.{encode, decode, decode-op, decode-register, form-if, ops};
 
@@ -257,7 +257,7 @@ pub fn append_at(
 // One word as bytes, lowest first.
 fn write_word(out: &mut [u8], at: usize, w: u32)
     requires { ⌜ at + 4 ≤ length (now out) ⌝ }
-    ensures { λ r. ⌜ now (out .exit) ≡ sets (now (out .entry)) at (word-bytes w) ⌝ }
+    ensures { λ r. ⌜ now (out .exit) ≡ store 4 (now (out .entry)) at w ⌝ }
 {
     out[at] = (w % 256) as u8;
     out[at + 1] = (w / 0x100 % 256) as u8;

@@ -1,11 +1,11 @@
 -- The run of a block's words, and the operation A64 run (document 01). Definitions only.
 use mathlib.Core.Bool.{cond, not}
 use mathlib.Core.List.{List, [], _∷_}
-use Prim.Native.Nat.{ℕ, zero, suc, _+_, _%_, _^_}
+use Prim.Native.Nat.{ℕ, zero, suc, _+_, _/_, _%_, _^_}
 use lib.Dec.{eqb, ltb}
 use lib.ListN.{length}
 use Rattle.word.specs.Word.{wrap}
-use Rattle.le.specs.Le.{number}
+use Rattle.le.specs.Le.{numbers}
 use Rattle.a64.specs.Forms.{decode}
 use Rattle.a64_run.specs.declared.state.A64State.{A64State}
 use Rattle.a64_run.specs.declared.exec.Outcome.{Outcome}
@@ -13,14 +13,9 @@ use Rattle.a64_run.specs.declared.run.End.{End}
 use Rattle.a64_run.specs.declared.run.Answer.{Answer}
 use Rattle.a64_run.specs.Exec.{State, machine, with-reg, After, exec}
 
--- the words of a block's bytes, each the lowest byte first
-unfoldable pub words : List ℕ → List ℕ
-unfolding number
-words (a ∷ b ∷ c ∷ d ∷ bs) = number (a ∷ b ∷ c ∷ d ∷ []) ∷ words bs
-words (a ∷ b ∷ c ∷ []) = []
-words (a ∷ b ∷ []) = []
-words (a ∷ []) = []
-words [] = []
+-- the words of a block's bytes
+abbrev pub words : List ℕ → List ℕ
+words block = numbers 4 (length block / 4) block
 
 pub record Ran : Type 0 where
   pub end : End
