@@ -5,14 +5,16 @@ use native.Mathlib.Numerals.{add-one}
 use mathlib.Core.Path.{_≡_, refl, sym, ap, _∙_}
 use mathlib.Core.Bool.{Bool, true, false, cond}
 use mathlib.Core.List.{List, [], _∷_, _++_, append-assoc, append-nil, flatten}
-use lib.ListN.{length, take, drop, getD, set, length-append, length-take, length-drop}
-use lib.Seq.{take-nil, take-suc, take-suc-set, take-at, drop-append-add, drop-drop, length-take-le, sets, sets-eq, paste, take-paste}
+use lib.ListN.{length, take, set, length-append, length-take}
+use lib.Seq.{take-nil, take-suc-set, length-take-le, paste, take-paste}
 use lib.Dec.{leb, eqb}
 use borrow.Author.Tests.{le-leb, lt-leb, eq-eqb, ne-eqb}
 use Rattle.rules.specs.Limits.{instr-words, max-words}
+use Rattle.le.specs.Parts.{over}
+use Rattle.le.proofs.Lists.{length-all-bytes}
 use Rattle.a64.specs.Parts.{emitted-in, emitted, emitted-all, written, Written}
 use Rattle.a64.specs.Writers.{part, movk, mov-imm64}
-use Rattle.a64.specs.Emitter.{bytes, word-bytes}
+use Rattle.a64.specs.Emitter.{bytes}
 
 -- words that fit are added
 pub emitted-fits : (m : ℕ) (h ws : List ℕ) → length h + length ws ≤ m → emitted-in m h ws ≡ h ++ ws
@@ -97,44 +99,19 @@ pasted m k l at s n e f h =
 -- ---- bytes
 
 pub length-bytes : (ws : List ℕ) → length (bytes ws) ≡ 4 * length ws
-length-bytes [] = refl
-length-bytes (w ∷ ws) = let r = length-bytes ws in omega arith
-
-bytes-append : (vs ws : List ℕ) → bytes (vs ++ ws) ≡ bytes vs ++ bytes ws
-bytes-append [] ws = refl
-bytes-append (v ∷ vs) ws = ap (λ (t : List ℕ). word-bytes v ++ t) (bytes-append vs ws)
-
-pub length-written : (ws d : List ℕ) (i : ℕ) → i ≤ length ws → 4 * i ≤ length d → length (bytes (take i ws) ++ drop (4 * i) d) ≡ length d
-length-written ws d i h k =
-    let t : length (take i ws) ≡ i = length-take-le i ws h in
-    rw length-append (omega (arith, length-bytes (take i ws), length-drop (4 * i) d))
-
--- the bytes of one word more
-pub bytes-more : (ws d : List ℕ) (i : ℕ) → i < length ws → 4 * i + 4 ≤ length d
-    → sets (bytes (take i ws) ++ drop (4 * i) d) (4 * i) (word-bytes (getD ws i 0)) ≡ bytes (take (i + 1) ws) ++ drop (4 * (i + 1)) d
-bytes-more ws d i h k =
-    let w : ℕ = getD ws i 0 in
-    let b : List ℕ = bytes (take i ws) in
-    let x : List ℕ = drop (4 * i) d in
-    let t : length (take i ws) ≡ i = length-take-le i ws (omega arith) in
-    let lb : length b ≡ 4 * i = omega (arith, length-bytes (take i ws)) in
-    let lx : length (b ++ x) ≡ length b + length x = length-append b x in
-    let f : bytes (take (i + 1) ws) ≡ b ++ word-bytes w = rw (add-one, take-suc ws i 0 h) (bytes-append (take i ws) (w ∷ [])) in
-    let q : 4 * i + 4 ≡ 4 * (i + 1) = omega arith in
-    let g : drop (4 * i + 4) (b ++ x) ≡ drop (4 * (i + 1)) d =
-    ap (λ (n : ℕ). drop (n + 4) (b ++ x)) (sym lb) ∙ drop-append-add b x 4 ∙ drop-drop 4 (4 * i) d ∙ ap (λ (n : ℕ). drop n d) q in
-    sets-eq (word-bytes w) (b ++ x) (4 * i) (omega (arith, length-drop (4 * i) d)) ∙ rw (take-at b x (4 * i) lb, g, f)
+length-bytes ws = length-all-bytes 4 ws
 
 -- all the held words as bytes, where they fit in d
 pub held-bytes : (ws : List ℕ) (len : ℕ) → length ws ≡ max-words → length (bytes (take len ws)) ≡ 4 * min len max-words
 held-bytes ws len l = let k : length (take len ws) ≡ min len max-words = rw l at (length-take len ws) in omega (arith, length-bytes (take len ws))
 
 pub all-written : (ws d : List ℕ) (len : ℕ) → length ws ≡ max-words → 4 * min len max-words ≤ length d → (d′ : List ℕ)
-    → d′ ≡ bytes (take (min len max-words) ws) ++ drop (4 * min len max-words) d → Written (take len ws) d (4 * min len max-words) d′
+    → d′ ≡ over 4 (take (min len max-words) ws) d → Written (take len ws) d (4 * min len max-words) d′
 unfolding written
 all-written ws d len l f d′ e =
     let b : length (bytes (take len ws)) ≡ 4 * min len max-words = held-bytes ws len l in
-    record { count = sym b; content = e ∙ rw (take-held max-words len ws l, b, le-leb (4 * min len max-words) (length d) f) }
+    let k : 4 * length (take len ws) ≡ 4 * min len max-words = sym (length-bytes (take len ws)) ∙ b in
+    record { count = sym b; content = e ∙ rw (take-held max-words len ws l, k, b, le-leb (4 * min len max-words) (length d) f) }
 
 -- nothing where they do not
 pub none-written : (ws d : List ℕ) (len : ℕ) → length ws ≡ max-words → length d < 4 * min len max-words → Written (take len ws) d (4 * min len max-words) d

@@ -4,8 +4,8 @@ use mathlib.Core.List.{List, [], _∷_}
 use Prim.Native.Nat.{ℕ, zero, suc, _+_, _-_, _*_, _/_, _≤_, _<_}
 use native.Mathlib.Omega.{arith}
 use lib.ListN.{length, drop}
-use lib.Seq.{drop-nil}
-use Rattle.le.specs.Le.{number, load}
+use Rattle.le.specs.Le.{load}
+use Rattle.le.proofs.Lists.{numbers-at, numbers-over}
 use Rattle.a64.specs.Forms.{decode}
 use Rattle.a64_run.specs.declared.state.Flags.{Flags}
 use Rattle.a64_run.specs.declared.exec.Outcome.{Outcome}
@@ -14,27 +14,6 @@ use Rattle.a64_run.specs.declared.run.End.{End}
 use Rattle.a64_run.specs.Exec.{State, machine, after, exec}
 use Rattle.a64_run.specs.Parts.{Executed}
 use Rattle.a64_run.specs.Run.{words, Ran, ran, onward, run}
-
--- word i of a block, and the words after it
-pub words-at : (bs : List ℕ) (i : ℕ) → 4 * i + 4 ≤ length bs → drop i (words bs) ≡ load 4 bs (4 * i) ∷ drop (suc i) (words bs)
-unfolding words load number
-words-at (a ∷ b ∷ c ∷ d ∷ bs) zero h = refl
-words-at (a ∷ b ∷ c ∷ d ∷ bs) (suc i) h =
-    let e : 4 * suc i ≡ suc (suc (suc (suc (4 * i)))) = omega arith in
-    rw e (words-at bs i (omega arith))
-words-at (a ∷ b ∷ c ∷ []) i h = absurd (omega arith)
-words-at (a ∷ b ∷ []) i h = absurd (omega arith)
-words-at (a ∷ []) i h = absurd (omega arith)
-words-at [] i h = absurd (omega arith)
-
-pub words-over : (bs : List ℕ) (i : ℕ) → length bs / 4 ≤ i → drop i (words bs) ≡ []
-unfolding words
-words-over (a ∷ b ∷ c ∷ d ∷ bs) zero h = absurd (omega arith)
-words-over (a ∷ b ∷ c ∷ d ∷ bs) (suc i) h = words-over bs i (omega arith)
-words-over (a ∷ b ∷ c ∷ []) i h = drop-nil i
-words-over (a ∷ b ∷ []) i h = drop-nil i
-words-over (a ∷ []) i h = drop-nil i
-words-over [] i h = drop-nil i
 
 -- one word
 pub run-word : (w : ℕ) (ws : List ℕ) (at budget k : ℕ) (s : State) → 0 < budget
@@ -72,12 +51,12 @@ module _ {w : Ran} {block : List ℕ} {address budget base n l : ℕ} {x : List 
   pub off-end : n ≤ i → ran End.OffEnd i (machine x sp flags base m) ≡ w
   unfolding run
   off-end h =
-      let e : drop i (words block) ≡ [] = words-over block i (omega arith) in
+      let e : drop i (words block) ≡ [] = numbers-over 4 (length block / 4) block i (omega arith) in
       rw e at (v .same)
 
   pub spent : i < n → i ≡ budget → ran End.Spent i (machine x sp flags base m) ≡ w
   spent h e =
-      let d : drop i (words block) ≡ load 4 block (4 * i) ∷ drop (suc i) (words block) = words-at block i (omega arith) in
+      let d : drop i (words block) ≡ load 4 block (4 * i) ∷ drop (suc i) (words block) = numbers-at 4 (length block / 4) block i (omega arith) in
       sym (run-spent (load 4 block (4 * i)) (drop (suc i) (words block)) (address + 4 * i) (budget - i) i (machine x sp flags base m) (omega arith))
       ∙ rw d at (v .same)
 
@@ -87,7 +66,7 @@ module _ {w : Ran} {block : List ℕ} {address budget base n l : ℕ} {x : List 
     step-is : onward (after (r .outcome) (machine x′ (r .sp) (r .flags) base m′)) (address + 4 * i) i
         (run (drop (suc i) (words block)) (address + 4 * i + 4) (budget - i - 1) (suc i)) ≡ w
     step-is =
-        let d : drop i (words block) ≡ load 4 block (4 * i) ∷ drop (suc i) (words block) = words-at block i (omega arith) in
+        let d : drop i (words block) ≡ load 4 block (4 * i) ∷ drop (suc i) (words block) = numbers-at 4 (length block / 4) block i (omega arith) in
         rw (← t .goes)
         (sym (run-word (load 4 block (4 * i)) (drop (suc i) (words block)) (address + 4 * i) (budget - i) i (machine x sp flags base m) (omega arith))
         ∙ rw d at (v .same))

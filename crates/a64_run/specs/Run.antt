@@ -1,11 +1,11 @@
 -- The run of a block's words, and the operation A64 run (document 01). Definitions only.
 use mathlib.Core.Bool.{cond, not}
 use mathlib.Core.List.{List, [], _∷_}
-use Prim.Native.Nat.{ℕ, zero, suc, _+_, _%_, _^_}
+use Prim.Native.Nat.{ℕ, zero, suc, _+_, _/_, _%_, _^_}
 use lib.Dec.{eqb, ltb}
 use lib.ListN.{length}
 use Rattle.word.specs.Word.{wrap}
-use Rattle.le.specs.Le.{number}
+use Rattle.le.specs.Le.{numbers}
 use Rattle.a64.specs.Forms.{decode}
 use Rattle.a64_run.specs.declared.state.A64State.{A64State}
 use Rattle.a64_run.specs.declared.exec.Outcome.{Outcome}
@@ -13,14 +13,9 @@ use Rattle.a64_run.specs.declared.run.End.{End}
 use Rattle.a64_run.specs.declared.run.Answer.{Answer}
 use Rattle.a64_run.specs.Exec.{State, machine, with-reg, After, exec}
 
--- the words of a block's bytes, each the lowest byte first
-unfoldable pub words : List ℕ → List ℕ
-unfolding number
-words (a ∷ b ∷ c ∷ d ∷ bs) = number (a ∷ b ∷ c ∷ d ∷ []) ∷ words bs
-words (a ∷ b ∷ c ∷ []) = []
-words (a ∷ b ∷ []) = []
-words (a ∷ []) = []
-words [] = []
+-- the words of a block's bytes
+abbrev pub words : List ℕ → List ℕ
+words block = numbers 4 (length block / 4) block
 
 pub record Ran : Type 0 where
   pub end : End
@@ -58,10 +53,6 @@ end-number End.Fault = 4
 end-number End.Returned = 5
 end-number End.Called = 6
 
--- 10: block length not a multiple of 4; 11: memory base plus memory length exceeds 2 ^ 64; 0: accepted
-unfoldable pub refusal : List ℕ → ℕ → List ℕ → ℕ
-refusal block base mem = cond (not (eqb (length block % 4) 0)) 10 (cond (ltb (2 ^ 64) (base + length mem)) 11 0)
-
 abbrev pub at-entry : A64State → ℕ → List ℕ → State
 at-entry s base mem = machine (s .x) (s .sp) (s .flags) base mem
 
@@ -72,17 +63,25 @@ registers s = record { x = s .x; sp = s .sp; flags = s .flags }
 abbrev pub whole : List ℕ → ℕ → A64State → ℕ → List ℕ → ℕ → Ran
 whole block address s budget mem base = run (words block) address budget 0 (at-entry s base mem)
 
-abbrev pub accepted : Ran → Answer
-accepted r = record { refusal = 0; end = end-number (r .end); steps = r .steps; state = registers (r .state) }
+-- its answer, and the memory bytes afterwards
+pub record Result : Type 0 where
+  pub answer : Answer
+  pub memory : List ℕ
 
+abbrev pub result : Answer → List ℕ → Result
+result a mem = record { answer = a; memory = mem }
+
+abbrev pub accepted : Ran → Result
+accepted r =
+    result (record { refusal = 0; end = end-number (r .end); steps = r .steps; state = registers (r .state) }) (r .state .mem)
+
+-- a refusal leaves state and memory
 abbrev pub refused : ℕ → A64State → Answer
 refused n s = record { refusal = n; end = 0; steps = 0; state = s }
 
--- the answer, and the memory bytes afterwards; a refusal leaves state and memory
-abbrev pub answer : List ℕ → ℕ → A64State → ℕ → List ℕ → ℕ → Answer
-answer block address s budget mem base =
-    cond (eqb (refusal block base mem) 0) (accepted (whole block address s budget mem base)) (refused (refusal block base mem) s)
-
-abbrev pub memory-after : List ℕ → ℕ → A64State → ℕ → List ℕ → ℕ → List ℕ
-memory-after block address s budget mem base =
-    cond (eqb (refusal block base mem) 0) (whole block address s budget mem base .state .mem) mem
+-- 10: block length not a multiple of 4; 11: memory base plus memory length exceeds 2 ^ 64
+unfoldable pub a64-run : List ℕ → ℕ → A64State → ℕ → List ℕ → ℕ → Result
+a64-run block address s budget mem base =
+    cond (not (eqb (length block % 4) 0)) (result (refused 10 s) mem)
+    (cond (ltb (2 ^ 64) (base + length mem)) (result (refused 11 s) mem)
+    (accepted (whole block address s budget mem base)))

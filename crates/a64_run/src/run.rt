@@ -1,6 +1,7 @@
 // The run of a block's words, and the operation A64 run.
 ghost use mathlib.Core.Path.{_≡_};
-ghost use Prim.Native.Nat.{_+_, _*_, _≤_};
+ghost use Prim.Native.Nat.{_+_, _*_, _^_, _≤_};
+ghost use lib.Dec.{ltb};
 ghost use lib.ListN.{length};
 ghost use Rattle.le.specs.Le.{load};
 ghost use Rattle.a64.specs.Forms.{decode};
@@ -114,20 +115,28 @@ fn run_words(
     ended(End::OffEnd, i as u64, at)
 }
 
-// The refusal of a block and a memory, or 0.
-fn refuse(block: &[u8], memory: &[u8], base: u64) -> u32
-    ensures { λ r. ⌜ r ≡ R.refusal (now (block .entry)) base (now (memory .entry)) ⌝ }
+// Whether `len` bytes from `base` on end beyond 2^64.
+fn beyond(base: u64, len: u64) -> bool
+    ensures { λ r. ⌜ r ≡ ltb (2 ^ 64) (base + len) ⌝ }
 {
-    if block.len() % 4 != 0 {
-        return 10;
-    }
     if base == 0 {
-        return 0;
+        return false;
     }
-    if 0xFFFF_FFFF_FFFF_FFFF - base + 1 < memory.len() as u64 {
-        return 11;
+    if 0xFFFF_FFFF_FFFF_FFFF - base + 1 < len {
+        return true;
     }
-    0
+    false
+}
+
+fn refused(n: u32, state: A64State) -> Answer
+    ensures { λ r. ⌜ r ≡ R.refused n state ⌝ }
+{
+    Answer {
+        refusal: n,
+        end: 0,
+        steps: 0,
+        state: state,
+    }
 }
 
 // A64 run (document 01): the words of `block` at `address`, from word 0, with `memory` from `base` on.
@@ -139,17 +148,14 @@ pub fn a64_run(
     memory: &mut [u8],
     base: u64,
 ) -> Answer
-    ensures { λ r. ⌜ r ≡ R.answer (now (block .entry)) address state budget (now (memory .entry)) base ⌝ }
-    ensures { λ r. ⌜ now (memory .exit) ≡ R.memory-after (now (block .entry)) address state budget (now (memory .entry)) base ⌝ }
+    ensures { λ r. ⌜ R.result r (now (memory .exit)) ≡ R.a64-run (now (block .entry)) address state budget (now (memory .entry)) base ⌝ }
 {
-    let refusal = refuse(block, memory, base);
-    if refusal != 0 {
-        return Answer {
-            refusal: refusal,
-            end: 0,
-            steps: 0,
-            state: state,
-        };
+    if block.len() % 4 != 0 {
+        return refused(10, state);
+    }
+    let past = beyond(base, memory.len() as u64);
+    if past {
+        return refused(11, state);
     }
     let ran = run_words(block, address, state, budget, memory, base);
     let after = ran.state;

@@ -34,24 +34,24 @@ alloc c code =
       cache = record { bytes = take (aligned c) (c .bytes) ++ code ++ drop (end c code) (c .bytes); used = end c code };
     }))
 
--- ---- Place: refusal 7 where used exceeds the store, refusal 8 where `alloc` has no room
+-- ---- Place: its answer, and the bytes of the store afterwards
 
-abbrev pub refused : ℕ → Placed
-refused n = record { refusal = n; start = 0; used = 0 }
+pub record Result : Type 0 where
+  pub answer : Placed
+  pub store : List ℕ
 
-abbrev pub answer : Option Allocated → Placed
-answer none = refused 8
-answer (some a) = record { refusal = 0; start = a .start; used = a .cache .used }
+abbrev pub result : Placed → List ℕ → Result
+result a store = record { answer = a; store = store }
 
-abbrev pub bytes-after : List ℕ → Option Allocated → List ℕ
-bytes-after store none = store
-bytes-after store (some a) = a .cache .bytes
+abbrev pub refusal : ℕ → Placed
+refusal n = record { refusal = n; start = 0; used = 0 }
 
-abbrev pub cache-of : List ℕ → ℕ → Cache
-cache-of store used = record { bytes = store; used = used }
+-- a refusal leaves the store; 8: `alloc` has no room
+abbrev pub allocated : List ℕ → Option Allocated → Result
+allocated store none = result (refusal 8) store
+allocated store (some a) = result (record { refusal = 0; start = a .start; used = a .cache .used }) (a .cache .bytes)
 
-unfoldable pub placed : List ℕ → ℕ → List ℕ → Placed
-placed store used code = cond (ltb (length store) used) (refused 7) (answer (alloc (cache-of store used) code))
-
-unfoldable pub store-after : List ℕ → ℕ → List ℕ → List ℕ
-store-after store used code = cond (ltb (length store) used) store (bytes-after store (alloc (cache-of store used) code))
+-- 7: used exceeds the store
+unfoldable pub place : List ℕ → ℕ → List ℕ → Result
+place store used code =
+    cond (ltb (length store) used) (result (refusal 7) store) (allocated store (alloc (record { bytes = store; used = used }) code))

@@ -3,7 +3,7 @@ ghost use mathlib.Core.Path.{_≡_};
 ghost use mathlib.Core.List.{_++_};
 ghost use Prim.Native.Nat.{_+_, _≤_};
 ghost use lib.ListN.{length, take, drop};
-ghost use Rattle.code_cache.specs.Place.{refused, placed, store-after};
+ghost use Rattle.code_cache.specs.Place as P;
 
 // The refusal, 0 where the code was placed; where it starts; how much of the store is then used.
 pub struct Placed {
@@ -26,7 +26,7 @@ fn copy(store: &mut [u8], at: usize, code: &[u8])
 }
 
 fn refuse(n: u64) -> Placed
-    ensures { λ r. ⌜ r ≡ refused n ⌝ }
+    ensures { λ r. ⌜ r ≡ P.refusal n ⌝ }
 {
     Placed {
         refusal: n,
@@ -37,7 +37,7 @@ fn refuse(n: u64) -> Placed
 
 // The code goes to `used`, rounded up to a multiple of 4. Nothing overflows: what is left of the store is compared.
 pub fn place(store: &mut [u8], used: u64, code: &[u8]) -> Placed
-    ensures { λ r. ⌜ (r ≡ placed (now (store .entry)) used (now (code .entry))) × (now (store .exit) ≡ store-after (now (store .entry)) used (now (code .entry))) ⌝ }
+    ensures { λ r. ⌜ P.result r (now (store .exit)) ≡ P.place (now (store .entry)) used (now (code .entry)) ⌝ }
 {
     let size = store.len() as u64;
     let len = code.len() as u64;

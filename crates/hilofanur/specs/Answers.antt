@@ -1,62 +1,86 @@
 -- What each operation answers over the C boundary, and each lent byte afterwards. Definitions only.
-use mathlib.Core.Bool.{cond}
+use mathlib.Core.Bool.{Bool, cond}
 use mathlib.Core.List.{List, [], _∷_, _++_}
 use Prim.Native.Nat.{ℕ}
 use lib.Dec.{eqb}
-use Rattle.le.specs.Le.{load}
+use Rattle.le.specs.Le.{load, numbers, all-bytes}
 use Rattle.jit_arm64.specs.declared.Answer as T
-use Rattle.code_cache.specs.declared.Placed.{Placed}
 use Rattle.code_cache.specs.Place as P
 use Rattle.rv64.specs.declared.run.Hart.{Hart}
 use Rattle.rv64.specs.declared.run.Answer as Rv64
-use Rattle.rv64.specs.Run.{number}
+use Rattle.rv64.specs.Run.{number, answer}
 use Rattle.a64_run.specs.declared.state.A64State.{A64State}
-use Rattle.a64_run.specs.declared.run.Answer.{Answer}
+use Rattle.a64_run.specs.Run as R
 use Rattle.a64_run.specs.Nzcv.{flags-of, nzcv-of}
 use Rattle.hilofanur.specs.declared.TranslateAnswer.{TranslateAnswer}
 use Rattle.hilofanur.specs.declared.PlaceAnswer.{PlaceAnswer}
 use Rattle.hilofanur.specs.declared.A64RunAnswer.{A64RunAnswer}
 use Rattle.hilofanur.specs.declared.Rv64RunAnswer.{Rv64RunAnswer}
-use Rattle.hilofanur.specs.Bytes.{numbers, bytes-of}
 
 -- ---- Translate
 
 abbrev pub translate-of : T.Answer → TranslateAnswer
 translate-of a = record { refusal = a .refusal; length = a .length; count = a .count; helper = a .helper }
 
--- ---- Place
+-- ---- Place: the answer, and the store's bytes
 
-abbrev pub place-of : Placed → PlaceAnswer
-place-of p = record { refusal = p .refusal; start = p .start; used = p .used }
+pub record PlaceResult : Type 0 where
+  pub answer : PlaceAnswer
+  pub store : List ℕ
 
-abbrev pub place : List ℕ → ℕ → List ℕ → PlaceAnswer
-place store used code = place-of (P.placed store used code)
+abbrev pub place-result : PlaceAnswer → List ℕ → PlaceResult
+place-result a store = record { answer = a; store = store }
 
--- ---- A64 run
+abbrev pub place-of : P.Result → PlaceResult
+place-of p = place-result (record { refusal = p .answer .refusal; start = p .answer .start; used = p .answer .used }) (p .store)
+
+abbrev pub place : List ℕ → ℕ → List ℕ → PlaceResult
+place store used code = place-of (P.place store used code)
+
+-- ---- A64 run: the answer, the state's bytes and the memory's
+
+pub record A64Result : Type 0 where
+  pub answer : A64RunAnswer
+  pub state : List ℕ
+  pub memory : List ℕ
+
+abbrev pub a64-result : A64RunAnswer → List ℕ → List ℕ → A64Result
+a64-result a state mem = record { answer = a; state = state; memory = mem }
 
 -- X0 to X30, SP and NZCV, eight bytes each
 abbrev pub a64-state : List ℕ → A64State
-a64-state m = record { x = numbers 31 m; sp = load 8 m 248; flags = flags-of (load 8 m 256) }
+a64-state m = record { x = numbers 8 31 m; sp = load 8 m 248; flags = flags-of (load 8 m 256) }
 
-abbrev pub a64-numbers : A64State → List ℕ
-a64-numbers s = s .x ++ (s .sp ∷ nzcv-of (s .flags) ∷ [])
-
-abbrev pub a64-of : Answer → A64RunAnswer
-a64-of a = record { refusal = a .refusal; end = a .end; steps = a .steps }
+abbrev pub a64-bytes : A64State → List ℕ
+a64-bytes s = all-bytes 8 (s .x ++ (s .sp ∷ nzcv-of (s .flags) ∷ []))
 
 -- a refusal leaves the state's bytes
-abbrev pub a64-bytes : Answer → List ℕ → List ℕ
-a64-bytes a state = cond (eqb (a .refusal) 0) (bytes-of (a64-numbers (a .state))) state
+abbrev pub a64-of : List ℕ → R.Result → A64Result
+a64-of state r =
+    a64-result (record { refusal = r .answer .refusal; end = r .answer .end; steps = r .answer .steps })
+    (cond (eqb (r .answer .refusal) 0) (a64-bytes (r .answer .state)) state) (r .memory)
 
--- ---- RV64 run
+abbrev pub a64-run : List ℕ → ℕ → List ℕ → ℕ → List ℕ → ℕ → A64Result
+a64-run block address state budget mem base = a64-of state (R.a64-run block address (a64-state state) budget mem base)
+
+-- ---- RV64 run: the answer, and the registers' bytes
+
+pub record Rv64Result : Type 0 where
+  pub answer : Rv64RunAnswer
+  pub registers : List ℕ
+
+abbrev pub rv64-result : Rv64RunAnswer → List ℕ → Rv64Result
+rv64-result a registers = record { answer = a; registers = registers }
 
 -- the 32 registers, eight bytes each, and the PC
 abbrev pub rv64-hart : List ℕ → ℕ → Hart
-rv64-hart m pc = record { x = numbers 32 m; pc = pc }
-
-abbrev pub rv64-of : Rv64.Answer → Rv64RunAnswer
-rv64-of a = record { refusal = number (a .refusal); count = a .count; «next_pc» = a .hart .pc }
+rv64-hart m pc = record { x = numbers 8 32 m; pc = pc }
 
 -- a refusal leaves the registers' bytes
-abbrev pub rv64-bytes : Rv64.Answer → List ℕ → List ℕ
-rv64-bytes a registers = cond (eqb (number (a .refusal)) 0) (bytes-of (a .hart .x)) registers
+abbrev pub rv64-of : List ℕ → Rv64.Answer → Rv64Result
+rv64-of registers a =
+    rv64-result (record { refusal = number (a .refusal); count = a .count; «next_pc» = a .hart .pc })
+    (cond (eqb (number (a .refusal)) 0) (all-bytes 8 (a .hart .x)) registers)
+
+abbrev pub rv64-run : List ℕ → ℕ → ℕ → Bool → List ℕ → Rv64Result
+rv64-run guest pc limit e registers = rv64-of registers (answer guest (rv64-hart registers pc) limit e)

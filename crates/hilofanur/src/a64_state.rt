@@ -1,9 +1,7 @@
 // The A64 state as bytes: X0 to X30, SP and NZCV, eight bytes each.
 ghost use mathlib.Core.Path.{_≡_};
 ghost use lib.ListN.{length};
-ghost use Rattle.hilofanur.specs.Bytes.{bytes-of};
 ghost use Rattle.hilofanur.specs.Answers as Answers;
-use crate::numbers;
 use a64_run::state;
 use a64_run::state::A64State;
 
@@ -12,7 +10,7 @@ pub fn from_bytes(b: &[u8]) -> A64State
     ensures { λ r. ⌜ r ≡ Answers.a64-state (now (b .entry)) ⌝ }
 {
     let mut x = [0u64; 31];
-    numbers::read(b, &mut x);
+    le::read64(b, &mut x);
     let sp = le::load64(b, 248);
     let flags = state::flags_of(le::load64(b, 256));
     A64State {
@@ -24,11 +22,11 @@ pub fn from_bytes(b: &[u8]) -> A64State
 
 pub fn to_bytes(s: A64State, b: &mut [u8])
     requires { ⌜ length (now b) ≡ 264 ⌝ }
-    ensures { λ r. ⌜ now (b .exit) ≡ bytes-of (Answers.a64-numbers s) ⌝ }
+    ensures { λ r. ⌜ now (b .exit) ≡ Answers.a64-bytes s ⌝ }
 {
     let x = s.x;
     let flags = s.flags;
-    numbers::write(&x, b);
+    le::write64(&x, b);
     le::store64(b, 248, s.sp);
     le::store64(b, 256, state::nzcv_of(flags));
 }

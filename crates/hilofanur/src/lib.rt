@@ -3,13 +3,9 @@ ghost use mathlib.Core.Path.{_≡_};
 ghost use lib.ListN.{take};
 ghost use Rattle.jit_arm64.specs.Translate as T;
 ghost use Rattle.translation.specs.Demand3.{Demand3};
-ghost use Rattle.code_cache.specs.Place.{store-after};
-ghost use Rattle.rv64.specs.Run as Rv64;
-ghost use Rattle.a64_run.specs.Run as R;
 ghost use Rattle.hilofanur.specs.Answers as Answers;
 
 mod a64_state;
-mod numbers;
 mod rv64_hart;
 
 use a64_run::run;
@@ -86,8 +82,7 @@ pub extern "C" fn hilofanur_translate(
 
 #[no_mangle]
 pub extern "C" fn hilofanur_place(store: &mut [u8], used: u64, code: &[u8]) -> PlaceAnswer
-    ensures { λ r. ⌜ r ≡ Answers.place (now (store .entry)) used (now (code .entry)) ⌝ }
-    ensures { λ r. ⌜ now (store .exit) ≡ store-after (now (store .entry)) used (now (code .entry)) ⌝ }
+    ensures { λ r. ⌜ Answers.place-result r (now (store .exit)) ≡ Answers.place (now (store .entry)) used (now (code .entry)) ⌝ }
 {
     let placed = code_cache::place(store, used, code);
     PlaceAnswer {
@@ -107,9 +102,7 @@ pub extern "C" fn hilofanur_a64_run(
     memory: &mut [u8],
     base: u64,
 ) -> A64RunAnswer
-    ensures { λ r. ⌜ r ≡ Answers.a64-of (R.answer (now (block .entry)) address (Answers.a64-state (now (state .entry))) budget (now (memory .entry)) base) ⌝ }
-    ensures { λ r. ⌜ now (state .exit) ≡ Answers.a64-bytes (R.answer (now (block .entry)) address (Answers.a64-state (now (state .entry))) budget (now (memory .entry)) base) (now (state .entry)) ⌝ }
-    ensures { λ r. ⌜ now (memory .exit) ≡ R.memory-after (now (block .entry)) address (Answers.a64-state (now (state .entry))) budget (now (memory .entry)) base ⌝ }
+    ensures { λ r. ⌜ Answers.a64-result r (now (state .exit)) (now (memory .exit)) ≡ Answers.a64-run (now (block .entry)) address (now (state .entry)) budget (now (memory .entry)) base ⌝ }
 {
     let before = a64_state::from_bytes(state);
     let answer = run::a64_run(block, address, before, budget, memory, base);
@@ -139,8 +132,7 @@ pub extern "C" fn hilofanur_rv64_run(
     ignore_ebreak: bool,
     registers: &mut [u8; 256],
 ) -> Rv64RunAnswer
-    ensures { λ r. ⌜ r ≡ Answers.rv64-of (Rv64.answer (now (guest .entry)) (Answers.rv64-hart (now (registers .entry)) pc) limit «ignore_ebreak») ⌝ }
-    ensures { λ r. ⌜ now (registers .exit) ≡ Answers.rv64-bytes (Rv64.answer (now (guest .entry)) (Answers.rv64-hart (now (registers .entry)) pc) limit «ignore_ebreak») (now (registers .entry)) ⌝ }
+    ensures { λ r. ⌜ Answers.rv64-result r (now (registers .exit)) ≡ Answers.rv64-run (now (guest .entry)) pc limit «ignore_ebreak» (now (registers .entry)) ⌝ }
 {
     let before = rv64_hart::from_bytes(registers, pc);
     let answer = rv64_run::rv64_run(guest, before, limit, ignore_ebreak);

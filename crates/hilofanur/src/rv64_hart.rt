@@ -1,9 +1,8 @@
 // The guest registers as bytes, eight each.
 ghost use mathlib.Core.Path.{_≡_};
 ghost use lib.ListN.{length};
-ghost use Rattle.hilofanur.specs.Bytes.{bytes-of};
+ghost use Rattle.le.specs.Le.{all-bytes};
 ghost use Rattle.hilofanur.specs.Answers as Answers;
-use crate::numbers;
 use rv64::run::Hart;
 
 pub fn from_bytes(b: &[u8], pc: u64) -> Hart
@@ -11,14 +10,14 @@ pub fn from_bytes(b: &[u8], pc: u64) -> Hart
     ensures { λ r. ⌜ r ≡ Answers.rv64-hart (now (b .entry)) pc ⌝ }
 {
     let mut x = [0u64; 32];
-    numbers::read(b, &mut x);
+    le::read64(b, &mut x);
     Hart { x: x, pc: pc }
 }
 
 pub fn to_bytes(h: Hart, b: &mut [u8])
     requires { ⌜ length (now b) ≡ 256 ⌝ }
-    ensures { λ r. ⌜ now (b .exit) ≡ bytes-of (h .x) ⌝ }
+    ensures { λ r. ⌜ now (b .exit) ≡ all-bytes 8 (h .x) ⌝ }
 {
     let x = h.x;
-    numbers::write(&x, b);
+    le::write64(&x, b);
 }

@@ -68,5 +68,5 @@ said r =
     (bytes (r .words) ++ replicate (32 - 4 * length (r .words)) 0xEE)
 
 all-rows : map found rows ≡ map said rows
-unfolding rows row refusing nops room found said host T.is-missing T.by-helper T.no-block T.of-block T.translate B.fetch-upper B.fetch B.emit-native B.emit-term-helper B.helped B.step B.instr-walk B.walk B.end-calls B.whole-walk B.compile-native-block C.words-in C.store-rd D.sign-extend D.imm-ci D.shamt D.imm-addi4spn D.imm-addi16sp D.imm-cj D.imm-cb I.addi4spn I.quadrant-0 I.c-addi I.c-addiw I.c-li I.c-addi16sp I.c-lui I.c-srli I.c-srai I.c-andi I.c-alu I.c-group I.c-j I.c-branch-on I.c-branch I.c-addi16sp-lui I.quadrant-1 I.c-slli I.c-jr I.c-mv I.c-ebreak I.c-jalr I.c-add I.c-jump-move-add I.quadrant-2 I.emit-native-instr16 H.supports H.emit-native-term-helper16 A.movk A.mov-imm64 L.number L.load W.asr flatten
+unfolding rows row refusing nops room found said host T.is-missing T.by-helper T.no-block T.of-block T.translate B.fetch-upper B.fetch B.emit-native B.emit-term-helper B.helped B.step B.instr-walk B.walk B.end-calls B.whole-walk B.compile-native-block C.words-in C.store-rd D.sign-extend D.imm-ci D.shamt D.imm-addi4spn D.imm-addi16sp D.imm-cj D.imm-cb I.addi4spn I.quadrant-0 I.c-addi I.c-addiw I.c-li I.c-addi16sp I.c-lui I.c-srli I.c-srai I.c-andi I.c-alu I.c-group I.c-j I.c-branch-on I.c-branch I.c-addi16sp-lui I.quadrant-1 I.c-slli I.c-jr I.c-mv I.c-ebreak I.c-jalr I.c-add I.c-jump-move-add I.quadrant-2 I.emit-native-instr16 H.supports H.emit-native-term-helper16 A.movk A.mov-imm64 L.number L.load L.bytes L.all-bytes W.asr flatten
 all-rows = refl

@@ -25,3 +25,17 @@ load k m i = number (take k (drop i m))
 unfoldable pub store : ℕ → List ℕ → ℕ → ℕ → List ℕ
 unfolding bytes
 store k m i v = take i m ++ (bytes k v ++ drop (i + k) m)
+
+-- ---- numbers of k bytes in a row
+
+-- the first n numbers of m
+unfoldable pub numbers : ℕ → ℕ → List ℕ → List ℕ
+unfolding number
+numbers k zero m = []
+numbers k (suc n) m = number (take k m) ∷ numbers k n (drop k m)
+
+-- the bytes of each number
+unfoldable pub all-bytes : ℕ → List ℕ → List ℕ
+unfolding bytes
+all-bytes k [] = []
+all-bytes k (v ∷ vs) = bytes k v ++ all-bytes k vs

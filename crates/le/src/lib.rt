@@ -1,8 +1,9 @@
 // Little-endian numbers in byte slices.
 ghost use mathlib.Core.Path.{_≡_};
-ghost use Prim.Native.Nat.{_+_, _<_, _≤_};
+ghost use Prim.Native.Nat.{_+_, _*_, _<_, _≤_};
 ghost use lib.ListN.{length};
-ghost use Rattle.le.specs.Le.{load, store};
+ghost use Rattle.le.specs.Le.{load, store, numbers};
+ghost use Rattle.le.specs.Parts.{over};
 
 fn wide(b: u8) -> u16
     ensures { λ r. ⌜ (r ≡ b) × (r < 256) ⌝ }
@@ -57,4 +58,30 @@ pub fn store64(s: &mut [u8], at: usize, v: u64)
 {
     store32(s, at, (v % 0x1_0000_0000) as u32);
     store32(s, at + 4, (v / 0x1_0000_0000) as u32);
+}
+
+// The numbers at the front of b, into x.
+pub fn read64(b: &[u8], x: &mut [u64])
+    requires { ⌜ 8 * length (now x) ≤ length (now b) ⌝ }
+    ensures { λ r. ⌜ now (x .exit) ≡ numbers 8 (length (now (x .entry))) (now (b .entry)) ⌝ }
+{
+    let n = x.len();
+    let mut i = 0;
+    while i < n {
+        x[i] = load64(b, 8 * i);
+        i += 1;
+    }
+}
+
+// The numbers of x over the front of b.
+pub fn write64(x: &[u64], b: &mut [u8])
+    requires { ⌜ 8 * length (now x) ≤ length (now b) ⌝ }
+    ensures { λ r. ⌜ now (b .exit) ≡ over 8 (now (x .entry)) (now (b .entry)) ⌝ }
+{
+    let n = x.len();
+    let mut i = 0;
+    while i < n {
+        store64(b, 8 * i, x[i]);
+        i += 1;
+    }
 }

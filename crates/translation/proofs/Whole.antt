@@ -11,8 +11,9 @@ use lib.ListN.{length, getD, length-append}
 use borrow.Author.Tests.{ne-eqb, leb-true, leb-false, le-leb, lt-leb, ltb-true, ltb-false}
 use Rattle.rules.specs.Limits.{max-instrs, max-slot-offset}
 use Rattle.word.specs.Word.{wrap, add}
-use Rattle.le.specs.Le.{Bytes, number}
+use Rattle.le.specs.Le.{Bytes}
 use Rattle.le.proofs.Laws.{load-lt}
+use Rattle.le.proofs.Lists.{Fit, length-all-bytes, numbers-bytes}
 use Rattle.a64.specs.Forms.{decode}
 use Rattle.a64.specs.Emitter.{bytes}
 use Rattle.a64_run.specs.declared.run.End.{End}
@@ -38,25 +39,10 @@ use Rattle.translation.proofs.Blocks.{next-calls, walk-calls, Walks, wa
 
 -- ---- words and bytes
 
--- every word has 32 bits
-abbrev pub Words : List ℕ → Type 0
-Words [] = Unit {0}
-Words (w ∷ ws) = (w < 2 ^ 32) × Words ws
+pub words-bytes : (ws : List ℕ) → Fit 4 ws → A.words (bytes ws) ≡ ws
+words-bytes ws h = let e : length (bytes ws) / 4 ≡ length ws = omega (arith, length-all-bytes 4 ws) in rw e (numbers-bytes 4 ws h)
 
-pub words-bytes : (ws : List ℕ) → Words ws → A.words (bytes ws) ≡ ws
-unfolding A.words number
-words-bytes [] h = refl
-words-bytes (w ∷ ws) h =
-    let a : w / 2 ^ 16 ≡ w / 2 ^ 8 / 2 ^ 8 = omega arith in
-    let b : w / 2 ^ 24 ≡ w / 2 ^ 16 / 2 ^ 8 = omega arith in
-    let c : w / 2 ^ 24 < 256 = omega arith in
-    let e : number (w % 256 ∷ w / 2 ^ 8 % 256 ∷ w / 2 ^ 16 % 256 ∷ w / 2 ^ 24 % 256 ∷ []) ≡ w = by (w / 2 ^ 8) (w / 2 ^ 16) (w / 2 ^ 24) (omega arith) a b c in
-    rw (e, words-bytes ws (h .1))
-  where
-    by : (p q r : ℕ) → p ≡ w / 256 → q ≡ p / 256 → r ≡ q / 256 → r < 256 → w % 256 + 256 * (p % 256 + 256 * (q % 256 + 256 * (r % 256 + 256 * 0))) ≡ w
-    by p q r e f g l = omega arith
-
-straight-words : (ws vs : List ℕ) (s t : State) → Straight ws s t → Words vs → Words (ws ++ vs)
+straight-words : (ws vs : List ℕ) (s t : State) → Straight ws s t → Fit 4 vs → Fit 4 (ws ++ vs)
 straight-words [] vs s t g h = h
 straight-words (w ∷ ws) vs s t g h = (straight-lt w s (g .0) (g .1), straight-words ws vs (g .0) t (g .2) h)
 
@@ -226,7 +212,7 @@ module _ (h : JH.Host) (pc limit : ℕ) (guest : List ℕ) (hb : Bytes guest) (h
         let z : length ws + 0 ≡ length ws = omega arith in
         rw e (straight-run ws (ret ∷ []) address (suc (budget - suc (length ws))) 0 s t straight ∙ rw z)
 
-    all-words : Words (ws ++ (ret ∷ []))
+    all-words : Fit 4 (ws ++ (ret ∷ []))
     all-words = straight-words ws (ret ∷ []) s t straight (omega arith, tt)
 
     at-end : Kept r₀ (all-keep true (counted W)) u

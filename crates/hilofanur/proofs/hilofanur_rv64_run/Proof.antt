@@ -1,9 +1,7 @@
-use mathlib.Core.Path.{_≡_, _∙_, ap}
+use mathlib.Core.Path.{_∙_, ap}
 use borrow.Author.Tests.{ne-eqb}
 use Rattle.rv64.specs.declared.run.Hart.{Hart}
-use Rattle.rv64.specs.declared.run.Answer.{Answer}
 use Rattle.rv64.specs.Run.{answer}
-use Rattle.hilofanur.specs.Answers.{rv64-of, rv64-bytes}
 use borrow.Author.Needs.{needs}
 use Rattle.hilofanur.proofs.hilofanur_rv64_run.Statement.{statement}
 use Rattle.hilofanur.proofs.hilofanur_rv64_run.Tie as tie
@@ -14,9 +12,7 @@ returns c =
     let run = c .before .before .before .rv64-run in
     let e = c .before .before .before .before .from-bytes .ensures in
     let q = run .ensures ∙ ap (λ (h : Hart). answer (a .guest .now) h (a .limit) (a .ignore-ebreak)) e in
-    let n = c .before .before .number .ensures in
-    let k : a .registers .now ≡ rv64-bytes (run .result) (a .registers .now) = rw (← n, ne-eqb _ _ (c .if1 .taken)) in
-    (rw n (ap rv64-of q), k ∙ ap (λ (x : Answer). rv64-bytes x (a .registers .now)) q)
+    rw (← q, ← c .before .before .number .ensures, ne-eqb _ _ (c .if1 .taken))
 
 returns-2 : tie.Need-returns-2
 returns-2 c =
@@ -24,9 +20,7 @@ returns-2 c =
     let run = c .before .before .before .before .before .rv64-run in
     let e = c .before .before .before .before .before .before .from-bytes .ensures in
     let q = run .ensures ∙ ap (λ (h : Hart). answer (a .guest .now) h (a .limit) (a .ignore-ebreak)) e in
-    let n = c .before .before .before .before .number .ensures in
-    let k : c .to-bytes .last .1 .0 ≡ rv64-bytes (run .result) (a .registers .now) = rw (← n, c .before .before .if1 .left) (c .to-bytes .ensures) in
-    (rw n (ap rv64-of q), k ∙ ap (λ (x : Answer). rv64-bytes x (a .registers .now)) q)
+    rw (← q, ← c .before .before .before .before .number .ensures, c .before .before .if1 .left, c .to-bytes .ensures)
 
 pub hilofanur-rv64-run-spec : {M : Type 1} → statement M
 hilofanur-rv64-run-spec =

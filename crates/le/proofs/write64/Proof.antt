@@ -4,24 +4,24 @@ use Prim.Native.Nat.{_≤_, _-_, _*_}
 use mathlib.Core.Path.{_≡_, _∙_, refl}
 use lib.Seq.{take-all}
 use lib.ListN.{length, take}
-use Rattle.hilofanur.specs.Bytes.{bytes-of}
-use Rattle.hilofanur.specs.Parts.{over}
-use Rattle.hilofanur.proofs.Laws.{write-more}
-use Rattle.hilofanur.proofs.numbers.write.Statement.{statement}
-use Rattle.hilofanur.proofs.numbers.write.Tie as tie
+use Rattle.le.specs.Le.{all-bytes}
+use Rattle.le.specs.Parts.{over}
+use Rattle.le.proofs.Lists.{write-more}
+use Rattle.le.proofs.write64.Statement.{statement}
+use Rattle.le.proofs.write64.Tie as tie
 
 abbrev Inv-loop : tie.InvT-loop
-Inv-loop x b₀ n i₀ b i = (i ≤ n) × (length x ≡ n) × (8 * n ≤ length b) × (length b ≡ length b₀) × (b ≡ over (take i x) b₀)
+Inv-loop x b₀ n i₀ b i = (i ≤ n) × (length x ≡ n) × (8 * n ≤ length b) × (length b ≡ length b₀) × (b ≡ over 8 (take i x) b₀)
 
 abbrev μ-loop : tie.MeasureT-loop
 μ-loop x b₀ n i₀ b i = n - i
 
 loop-holds : tie.Need-loop-holds Inv-loop μ-loop
-unfolding bytes-of
+unfolding all-bytes
 loop-holds c = (search needs, search needs, search needs, refl, refl)
 
 loop-again : tie.Need-loop-again Inv-loop μ-loop
-loop-again c = let l = c .before .before .before .before .before .before .loop in (omega arith, search needs, omega (arith, c .before .before .store64 .kept .0), c .before .before .store64 .kept .0 ∙ l .inv .3, write-more _ _ _ _ (l .i) (omega arith) (l .inv .4) (c .before .before .store64 .ensures))
+loop-again c = let l = c .before .before .before .before .before .before .loop in (omega arith, search needs, omega (arith, c .before .before .store64 .kept .0), c .before .before .store64 .kept .0 ∙ l .inv .3, write-more 8 _ _ _ _ (l .i) (omega arith) (l .inv .4) (c .before .before .store64 .ensures))
 
 returns : tie.Need-returns Inv-loop μ-loop
 returns c =
@@ -29,8 +29,8 @@ returns c =
     let e : l .i ≡ length (c .before .before .before .before .args .x .now) = omega arith in
     rw (take-all (l .i) (c .before .before .before .before .args .x .now) (omega arith)) at (l .inv .4)
 
-pub write-spec : {M : Type 1} → statement M
-write-spec =
+pub write64-spec : {M : Type 1} → statement M
+write64-spec =
     tie.close
     (tie.spec
     Inv-loop
