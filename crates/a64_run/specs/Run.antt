@@ -4,6 +4,7 @@ use mathlib.Core.List.{List, [], _∷_}
 use Prim.Native.Nat.{ℕ, zero, suc, _+_, _/_, _%_, _^_}
 use lib.Dec.{eqb, ltb}
 use lib.ListN.{length}
+use Rattle.rules.specs.Refusals as Refusals
 use Rattle.word.specs.Word.{wrap}
 use Rattle.le.specs.Le.{numbers}
 use Rattle.a64.specs.Forms.{decode}
@@ -73,15 +74,14 @@ result a mem = record { answer = a; memory = mem }
 
 abbrev pub accepted : Ran → Result
 accepted r =
-    result (record { refusal = 0; end = end-number (r .end); steps = r .steps; state = registers (r .state) }) (r .state .mem)
+    result (record { refusal = Refusals.accepted; end = end-number (r .end); steps = r .steps; state = registers (r .state) }) (r .state .mem)
 
 -- a refusal leaves state and memory
 abbrev pub refused : ℕ → A64State → Answer
 refused n s = record { refusal = n; end = 0; steps = 0; state = s }
 
--- 10: block length not a multiple of 4; 11: memory base plus memory length exceeds 2 ^ 64
 unfoldable pub a64-run : List ℕ → ℕ → A64State → ℕ → List ℕ → ℕ → Result
 a64-run block address s budget mem base =
-    cond (not (eqb (length block % 4) 0)) (result (refused 10 s) mem)
-    (cond (ltb (2 ^ 64) (base + length mem)) (result (refused 11 s) mem)
+    cond (not (eqb (length block % 4) 0)) (result (refused Refusals.block-length s) mem)
+    (cond (ltb (2 ^ 64) (base + length mem)) (result (refused Refusals.memory-exceeds-top s) mem)
     (accepted (whole block address s budget mem base)))

@@ -13,6 +13,7 @@ use crate::exec::Outcome;
 use crate::exec::Stepped;
 use crate::state::A64State;
 use crate::state::Flags;
+use rules::refusals;
 
 // How a run ended.
 pub enum End {
@@ -151,11 +152,11 @@ pub fn a64_run(
     ensures { λ r. ⌜ R.result r (now (memory .exit)) ≡ R.a64-run (now (block .entry)) address state budget (now (memory .entry)) base ⌝ }
 {
     if block.len() % 4 != 0 {
-        return refused(10, state);
+        return refused(refusals::BLOCK_LENGTH, state);
     }
     let past = beyond(base, memory.len() as u64);
     if past {
-        return refused(11, state);
+        return refused(refusals::MEMORY_EXCEEDS_TOP, state);
     }
     let ran = run_words(block, address, state, budget, memory, base);
     let after = ran.state;

@@ -5,6 +5,7 @@ use mathlib.Core.List.{List, _++_}
 use mathlib.Core.Option.{Option, none, some}
 use lib.ListN.{length, take, drop}
 use lib.Dec.{ltb}
+use Rattle.rules.specs.Refusals as Refusals
 use Rattle.code_cache.specs.declared.Placed.{Placed}
 
 -- the bytes of a cache, of which the first `used` are taken
@@ -46,12 +47,11 @@ result a store = record { answer = a; store = store }
 abbrev pub refusal : ℕ → Placed
 refusal n = record { refusal = n; start = 0; used = 0 }
 
--- a refusal leaves the store; 8: `alloc` has no room
+-- a refusal leaves the store
 abbrev pub allocated : List ℕ → Option Allocated → Result
-allocated store none = result (refusal 8) store
-allocated store (some a) = result (record { refusal = 0; start = a .start; used = a .cache .used }) (a .cache .bytes)
+allocated store none = result (refusal Refusals.code-exceeds-store) store
+allocated store (some a) = result (record { refusal = Refusals.accepted; start = a .start; used = a .cache .used }) (a .cache .bytes)
 
--- 7: used exceeds the store
 unfoldable pub place : List ℕ → ℕ → List ℕ → Result
 place store used code =
-    cond (ltb (length store) used) (result (refusal 7) store) (allocated store (alloc (record { bytes = store; used = used }) code))
+    cond (ltb (length store) used) (result (refusal Refusals.used-exceeds-store) store) (allocated store (alloc (record { bytes = store; used = used }) code))

@@ -4,6 +4,7 @@ ghost use mathlib.Core.List.{_++_};
 ghost use Prim.Native.Nat.{_+_, _≤_};
 ghost use lib.ListN.{length, take, drop};
 ghost use Rattle.code_cache.specs.Place as P;
+use rules::refusals;
 
 // The refusal, 0 where the code was placed; where it starts; how much of the store is then used.
 pub struct Placed {
@@ -25,11 +26,11 @@ fn copy(store: &mut [u8], at: usize, code: &[u8])
     }
 }
 
-fn refuse(n: u64) -> Placed
+fn refuse(n: u32) -> Placed
     ensures { λ r. ⌜ r ≡ P.refusal n ⌝ }
 {
     Placed {
-        refusal: n,
+        refusal: n as u64,
         start: 0,
         used: 0,
     }
@@ -42,15 +43,15 @@ pub fn place(store: &mut [u8], used: u64, code: &[u8]) -> Placed
     let size = store.len() as u64;
     let len = code.len() as u64;
     if size < used {
-        return refuse(7);
+        return refuse(refusals::USED_EXCEEDS_STORE);
     }
     let rest = size - used;
     let pad = (4 - used % 4) % 4;
     if rest < pad {
-        return refuse(8);
+        return refuse(refusals::CODE_EXCEEDS_STORE);
     }
     if rest - pad < len {
-        return refuse(8);
+        return refuse(refusals::CODE_EXCEEDS_STORE);
     }
     let start = used + pad;
     copy(store, start as usize, code);

@@ -4,7 +4,8 @@ use mathlib.Core.List.{List, [], _∷_, _++_}
 use Prim.Native.Nat.{ℕ}
 use lib.Dec.{eqb}
 use Rattle.le.specs.Le.{load, numbers, all-bytes}
-use Rattle.jit_arm64.specs.declared.Answer as T
+use Rattle.emit_native.specs.declared.Host.{Host}
+use Rattle.jit_arm64.specs.Translate as T
 use Rattle.code_cache.specs.Place as P
 use Rattle.rv64.specs.declared.run.Hart.{Hart}
 use Rattle.rv64.specs.declared.run.Answer as Rv64
@@ -17,10 +18,33 @@ use Rattle.hilofanur.specs.declared.PlaceAnswer.{PlaceAnswer}
 use Rattle.hilofanur.specs.declared.A64RunAnswer.{A64RunAnswer}
 use Rattle.hilofanur.specs.declared.Rv64RunAnswer.{Rv64RunAnswer}
 
--- ---- Translate
+-- ---- Translate: the answer, and the output's bytes
 
-abbrev pub translate-of : T.Answer → TranslateAnswer
-translate-of a = record { refusal = a .refusal; length = a .length; count = a .count; helper = a .helper }
+pub record TranslateResult : Type 0 where
+  pub answer : TranslateAnswer
+  pub output : List ℕ
+
+abbrev pub translate-result : TranslateAnswer → List ℕ → TranslateResult
+translate-result a output = record { answer = a; output = output }
+
+abbrev pub translate-of : T.Result → TranslateResult
+translate-of r =
+    let a = r .answer in
+    translate-result (record { refusal = a .refusal; length = a .length; count = a .count; helper = a .helper }) (r .output)
+
+abbrev pub translate : List ℕ → ℕ → ℕ → Host → List ℕ → TranslateResult
+translate guest pc limit host output = translate-of (T.translate host guest pc limit output)
+
+-- what the caller gives, in the order of the boundary
+abbrev pub host : Bool → ℕ → ℕ → ℕ → ℕ → Host
+host ignore-ebreak slot-offset memory-helper helper32 helper16 =
+    record {
+      «slot_offset» = slot-offset;
+      «memory_helper» = memory-helper;
+      helper32 = helper32;
+      helper16 = helper16;
+      «ignore_ebreak» = ignore-ebreak;
+    }
 
 -- ---- Place: the answer, and the store's bytes
 

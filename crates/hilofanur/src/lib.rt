@@ -1,7 +1,6 @@
 // The operations over the C boundary: numbers and byte slices.
 ghost use mathlib.Core.Path.{_≡_};
 ghost use lib.ListN.{take};
-ghost use Rattle.jit_arm64.specs.Translate as T;
 ghost use Rattle.translation.specs.Demand3.{Demand3};
 ghost use Rattle.hilofanur.specs.Answers as Answers;
 
@@ -9,6 +8,7 @@ mod a64_state;
 mod rv64_hart;
 
 use a64_run::run;
+use emit_native::Host;
 use rv64::run as rv64_run;
 
 // The refusal, 0 where the block was written; its length in bytes; its count of instructions; 1 where a helper ended it.
@@ -44,7 +44,6 @@ pub struct Rv64RunAnswer {
     pub next_pc: u64,
 }
 
-// memory, exec32 and exec16: the addresses of the memory helper and of the 32-bit and the 16-bit one.
 #[no_mangle]
 pub extern "C" fn hilofanur_translate(
     guest: &[u8],
@@ -52,26 +51,22 @@ pub extern "C" fn hilofanur_translate(
     limit: u32,
     ignore_ebreak: bool,
     slot_offset: u64,
-    memory: u64,
-    exec32: u64,
-    exec16: u64,
+    memory_helper: u64,
+    helper32: u64,
+    helper16: u64,
     output: &mut [u8],
 ) -> TranslateAnswer
-    ensures { λ r. ⌜ r ≡ Answers.translate-of (T.translate (T.host «slot_offset» memory exec32 exec16 «ignore_ebreak») (now (guest .entry)) pc limit (now (output .entry))) ⌝ }
-    ensures { λ r. ⌜ now (output .exit) ≡ T.output-after (T.host «slot_offset» memory exec32 exec16 «ignore_ebreak») (now (guest .entry)) pc limit (now (output .entry)) ⌝ }
+    ensures { λ r. ⌜ Answers.translate-result r (now (output .exit)) ≡ Answers.translate (now (guest .entry)) pc limit (Answers.host «ignore_ebreak» «slot_offset» «memory_helper» helper32 helper16) (now (output .entry)) ⌝ }
     ensures { λ r. ⌜ (r .refusal ≡ 0 → r .helper ≡ 0 → Demand3 (now (guest .entry)) pc limit «ignore_ebreak» «slot_offset» (take (r .length) (now (output .exit))) (r .count)) ⌝ }
 {
-    let a = translation::translate(
-        guest,
-        pc,
-        limit,
-        ignore_ebreak,
+    let host = Host {
         slot_offset,
-        memory,
-        exec32,
-        exec16,
-        output,
-    );
+        memory_helper,
+        helper32,
+        helper16,
+        ignore_ebreak,
+    };
+    let a = translation::translate(guest, pc, limit, host, output);
     TranslateAnswer {
         refusal: a.refusal,
         length: a.length,

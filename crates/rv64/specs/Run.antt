@@ -4,6 +4,8 @@ use mathlib.Core.List.{List}
 use Prim.Native.Nat.{ℕ, zero, suc, _+_, _%_, min}
 use lib.Dec.{ltb, eqb}
 use lib.ListN.{length, drop, getD}
+use Rattle.rules.specs.Limits.{max-instrs}
+use Rattle.rules.specs.Refusals as Refusals
 use Rattle.le.specs.Le.{load}
 use Rattle.rv64.specs.declared.execute.Flow.{Flow}
 use Rattle.rv64.specs.declared.run.Hart.{Hart}
@@ -61,21 +63,17 @@ run e (suc k) n bs h = step (fetch e bs) h n (λ (size : ℕ). run e k (n + 1) (
 
 -- ---- the operation
 
--- document 01, rule 1: the most instructions of a block
-abbrev pub most : ℕ
-most = 64
-
 abbrev pub clamped : ℕ → ℕ
-clamped limit = min limit most
+clamped limit = min limit max-instrs
 
 -- document 01's numbers
 unfoldable pub number : Refusal → ℕ
-number Refusal.Accepted = 0
-number Refusal.LimitZero = 2
-number Refusal.OddPc = 3
-number Refusal.NotFetched = 4
-number Refusal.NotCovered = 5
-number Refusal.RegisterZero = 9
+number Refusal.Accepted = Refusals.accepted
+number Refusal.LimitZero = Refusals.limit-zero
+number Refusal.OddPc = Refusals.odd-pc
+number Refusal.NotFetched = Refusals.not-fetched
+number Refusal.NotCovered = Refusals.not-covered
+number Refusal.RegisterZero = Refusals.register-zero
 
 unfoldable pub refusal-first : Fetched → ℕ → Refusal
 refusal-first Fetched.Missing x0 = Refusal.NotFetched

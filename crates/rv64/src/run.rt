@@ -8,6 +8,8 @@ use crate::compressed::step16;
 use crate::decode::Instr;
 use crate::decode::step32;
 use crate::execute::Flow;
+use rules::MAX_INSTRS;
+use rules::refusals;
 
 pub struct Hart {
     pub x: [u64; 32],
@@ -69,9 +71,6 @@ pub struct Answer {
     pub hart: Hart,
     pub count: u32,
 }
-
-// The most instructions of a block.
-const MOST: u32 = 64;
 
 // The instruction at a place in the guest bytes.
 pub fn fetch(guest: &[u8], at: usize) -> Encoding
@@ -156,18 +155,22 @@ pub fn number(q: Refusal) -> u32
 {
     match q {
         Refusal::Accepted => 0,
-        Refusal::LimitZero => 2,
-        Refusal::OddPc => 3,
-        Refusal::NotFetched => 4,
-        Refusal::NotCovered => 5,
-        Refusal::RegisterZero => 9,
+        Refusal::LimitZero => refusals::LIMIT_ZERO,
+        Refusal::OddPc => refusals::ODD_PC,
+        Refusal::NotFetched => refusals::NOT_FETCHED,
+        Refusal::NotCovered => refusals::NOT_COVERED,
+        Refusal::RegisterZero => refusals::REGISTER_ZERO,
     }
 }
 
 fn clamped(limit: u32) -> u32
     ensures { λ r. ⌜ r ≡ R.clamped limit ⌝ }
 {
-    if limit < MOST { limit } else { MOST }
+    if limit < MAX_INSTRS {
+        limit
+    } else {
+        MAX_INSTRS
+    }
 }
 
 fn refused(q: Refusal, x: [u64; 32]) -> Answer
