@@ -7,7 +7,7 @@ use Prim.Native.Nat.{ℕ, zero, suc, _+_, _*_, _/_, _%_, _^_, _<_}
 use native.Mathlib.Omega.{arith}
 use lib.Dec.{eqb, ltb, T}
 use lib.ListN.{getD}
-use borrow.Author.Tests.{eqb-true, eqb-false, ne-eqb}
+use borrow.Author.Tests.{eqb-true, ne-eqb}
 use Rattle.isa.specs.declared.classes.Class.{Class}
 use Rattle.isa.specs.Classes.{class-of}
 use Rattle.isa.specs.Formats.{inst, rd, rs1, rs2, funct3, funct7, i-imm, b-imm, u-imm, j-imm}
@@ -59,9 +59,15 @@ found ((k, a) ∷ t) n make other = by (eqb n k) (found t n make other)
     by true q = refl
     by false q = q
 
--- the funct7 of the two opcodes' entries
+-- the funct7 of the entries of OP and OP-32; the funct6 of the shifts by an immediate, and the funct7 of those of a word
 functs : List ℕ
 functs = 0 ∷ 32 ∷ 1 ∷ []
+
+functs6 : List ℕ
+functs6 = 0 ∷ 16 ∷ []
+
+functs7 : List ℕ
+functs7 = 0 ∷ 32 ∷ []
 
 -- n is one of a list
 member : List ℕ → ℕ → Bool
@@ -107,6 +113,15 @@ absent l ((k, v) ∷ t) n h r =
     let q = both (member l (k / 8)) (heads l t) h in
     rw (ne-eqb n k (λ e. let z : _≡_ {A = ℕ} 0 1 = cc (e, q .0, r) in omega arith)) (absent l t n (q .1) r)
 
+no-entry : {A : Type 0} (l : List ℕ) (t : Table A) (f f3 : ℕ) → f3 < 8 → T (heads l t) → None l f → find t (f * 8 + f3) ≡ Option.none
+no-entry l t f f3 h q r =
+    let e : (f * 8 + f3) / 8 ≡ f = omega arith in
+    absent l t (f * 8 + f3) q (rw e (no-member l f r))
+
+unlisted : {A B : Type 0} (l : List ℕ) (t : Table A) (f f3 : ℕ) → f3 < 8 → T (heads l t) → None l f → (make : A → B) (other : B)
+    → lookup t (f * 8 + f3) make other ≡ other
+unlisted l t f f3 h q r make other = rw (found t (f * 8 + f3) make other, no-entry l t f f3 h q r)
+
 -- the Rust's words for an entry
 abbrev emission : Option Alu → Emission
 emission o = made o (λ (k : Alu). continue (body k)) (none [])
@@ -121,9 +136,7 @@ Row t arm f7 = (f3 : ℕ) → f3 < 8 → At t arm f7 f3
 rows-are : (t : Table Alu) (arm : ℕ → ℕ → Emission) → T (heads functs t) → All (Row t arm) functs → ((f7 f3 : ℕ) → None functs f7 → arm f7 f3 ≡ none [])
     → (f7 : ℕ) → Row t arm f7
 rows-are t arm h rows rest f7 =
-    each (Row t arm) functs f7 rows (λ r f3 l.
-    let e : (f7 * 8 + f3) / 8 ≡ f7 = omega arith in
-    rw (rest f7 f3 r, absent functs t (f7 * 8 + f3) h (rw e (no-member functs f7 r))))
+    each (Row t arm) functs f7 rows (λ r f3 l. rw (rest f7 f3 r, no-entry functs t f7 f3 l h r))
 
 op-rows : (f7 : ℕ) → Row D.ops E.op-arm f7
 unfolding D.ops E.op-arm body find heads member functs None
@@ -213,28 +226,32 @@ module _ (r₀ : ℕ → ℕ) (pc : ℕ) (v : Host) (κ : Kept r₀ true v) (z :
   hi-is : w / 2 ^ 20 % 4096 / 2 ^ 6 % 64 ≡ w / 2 ^ 26 % 64
   hi-is = omega arith
 
-  slli-by : (b : Bool) → eqb (w / 2 ^ 26 % 64) 0 ≡ b → Agrees 4 pc v (lookup D.shifts (w / 2 ^ 26 % 64 * 8 + 1) (D.shift w) Instr.Uncovered)
-      (calls-first (load 9 (rs1 w) ∷ []) (then-store-rd (rd w) (E.op-imm-arm (J.imm-i w) (w / 2 ^ 20 % 4096) 1)))
-  unfolding D.shifts E.op-imm-arm store-rd
-  slli-by true p = rw (hi-is, eqb-true (w / 2 ^ 26 % 64) 0 p) (unfold body in (shift-is Alu.Sll))
-  slli-by false p =
-      let n : w / 2 ^ 26 % 64 ≡ 0 → ⊥ = eqb-false (w / 2 ^ 26 % 64) 0 p in
-      let k = w / 2 ^ 26 % 64 * 8 + 1 in
-      rw (hi-is, p, ne-eqb k 1 (λ e. n (omega arith)), ne-eqb k 5 (λ e. omega arith), ne-eqb k 133 (λ e. omega arith)) only-load
+  -- by funct6, with the funct3 t
+  abbrev Shifted : ℕ → ℕ → Type 0
+  Shifted t n =
+      w / 2 ^ 26 % 64 ≡ n → Agrees 4 pc v (lookup D.shifts (n * 8 + t) (D.shift w) Instr.Uncovered)
+      (calls-first (load 9 (rs1 w) ∷ []) (then-store-rd (rd w) (E.op-imm-arm (J.imm-i w) (w / 2 ^ 20 % 4096) t)))
 
-  srli-by : (b c : Bool) → eqb (w / 2 ^ 26 % 64) 0 ≡ b → eqb (w / 2 ^ 26 % 64) 16 ≡ c
-      → Agrees 4 pc v (lookup D.shifts (w / 2 ^ 26 % 64 * 8 + 5) (D.shift w) Instr.Uncovered)
-      (calls-first (load 9 (rs1 w) ∷ []) (then-store-rd (rd w) (E.op-imm-arm (J.imm-i w) (w / 2 ^ 20 % 4096) 5)))
-  unfolding D.shifts E.op-imm-arm store-rd
-  srli-by true c p q = rw (hi-is, eqb-true (w / 2 ^ 26 % 64) 0 p) (unfold body in (shift-is Alu.Srl))
-  srli-by false true p q = rw (hi-is, eqb-true (w / 2 ^ 26 % 64) 16 q) (unfold body in (shift-is Alu.Sra))
-  srli-by false false p q =
-      let n : w / 2 ^ 26 % 64 ≡ 0 → ⊥ = eqb-false (w / 2 ^ 26 % 64) 0 p in
-      let m : w / 2 ^ 26 % 64 ≡ 16 → ⊥ = eqb-false (w / 2 ^ 26 % 64) 16 q in
-      let k = w / 2 ^ 26 % 64 * 8 + 5 in
-      rw (hi-is, p, q, ne-eqb k 1 (λ e. omega arith), ne-eqb k 5 (λ e. n (omega arith)), ne-eqb k 133 (λ e. m (omega arith)))
+  slli-by : (n : ℕ) → Shifted 1 n
+  unfolding D.shifts E.op-imm-arm store-rd heads member functs6 None
+  slli-by n =
+      each (Shifted 1) functs6 n
+      (and (λ e. rw (hi-is, e) (unfold body in (shift-is Alu.Sll)))
+      (and (λ e. rw (hi-is, e) only-load)
+      done))
+      (λ r e. rw (hi-is, e, r .0, unlisted functs6 D.shifts n 1 (omega arith) tt r (D.shift w) Instr.Uncovered) only-load)
+
+  srli-by : (n : ℕ) → Shifted 5 n
+  unfolding D.shifts E.op-imm-arm store-rd heads member functs6 None
+  srli-by n =
+      each (Shifted 5) functs6 n
+      (and (λ e. rw (hi-is, e) (unfold body in (shift-is Alu.Srl)))
+      (and (λ e. rw (hi-is, e) (unfold body in (shift-is Alu.Sra)))
+      done))
+      (λ r e.
+      rw (hi-is, e, r .0, r .1 .0, unlisted functs6 D.shifts n 5 (omega arith) tt r (D.shift w) Instr.Uncovered)
       (uncovered-agrees r₀ 4 pc v κ z (load 9 (rs1 w) ∷ mov-imm64 10 (w / 2 ^ 20 % 4096 % 64) ∷ [])
-      (with-constant (rs1 w) (w / 2 ^ 20 % 4096 % 64) (omega arith) (omega arith)))
+      (with-constant (rs1 w) (w / 2 ^ 20 % 4096 % 64) (omega arith) (omega arith))))
 
   op-imm-by : (t : ℕ) → t < 8 → Agrees 4 pc v (lookup D.imms t (D.imm w) (lookup D.shifts (w / 2 ^ 26 % 64 * 8 + t) (D.shift w) Instr.Uncovered))
       (calls-first (load 9 (rs1 w) ∷ []) (then-store-rd (rd w) (E.op-imm-arm (J.imm-i w) (w / 2 ^ 20 % 4096) t)))
@@ -243,8 +260,8 @@ module _ (r₀ : ℕ → ℕ) (pc : ℕ) (v : Host) (κ : Kept r₀ true v) (z :
       digit
       (λ t. Agrees 4 pc v (lookup D.imms t (D.imm w) (lookup D.shifts (w / 2 ^ 26 % 64 * 8 + t) (D.shift w) Instr.Uncovered))
       (calls-first (load 9 (rs1 w) ∷ []) (then-store-rd (rd w) (E.op-imm-arm (J.imm-i w) (w / 2 ^ 20 % 4096) t))))
-      (unfold body in (imm-is Alu.Add)) (slli-by (eqb (w / 2 ^ 26 % 64) 0) refl) (unfold body in (imm-is Alu.Slt)) (unfold body in (imm-is Alu.Sltu))
-      (unfold body in (imm-is Alu.Xor)) (srli-by (eqb (w / 2 ^ 26 % 64) 0) (eqb (w / 2 ^ 26 % 64) 16) refl refl) (unfold body in (imm-is Alu.Or)) (unfold body in (imm-is Alu.And))
+      (unfold body in (imm-is Alu.Add)) (slli-by (w / 2 ^ 26 % 64) refl) (unfold body in (imm-is Alu.Slt)) (unfold body in (imm-is Alu.Sltu))
+      (unfold body in (imm-is Alu.Xor)) (srli-by (w / 2 ^ 26 % 64) refl) (unfold body in (imm-is Alu.Or)) (unfold body in (imm-is Alu.And))
 
   -- OP-IMM-32: the shifts of a word
   word-shift-is : (cs : List Call) (k : Alu) → Fine cs → ((u : Host) → u .r 10 < 32 → calls-run cs u .r 11 ≡ value k (u .r 9) (u .r 10))
@@ -254,28 +271,32 @@ module _ (r₀ : ℕ → ℕ) (pc : ℕ) (v : Host) (κ : Kept r₀ true v) (z :
       rw e
       (imm-agrees r₀ 4 pc v κ z cs k (rd w) (rs1 w) (inst 24 20 w) φ (λ u a b. l u (rw b (omega arith))) (omega arith) (omega arith) (omega arith))
 
-  slliw-by : (b : Bool) → eqb (funct7 w) 0 ≡ b → Agrees 4 pc v (lookup D.shifts32 (funct7 w * 8 + 1) (D.shiftw w) Instr.Uncovered)
-      (calls-first (load 9 (rs1 w) ∷ []) (then-store-rd (rd w) (E.op-imm-32-arm (J.imm-i w) (w / 2 ^ 20 % 4096) (funct7 w) 1)))
-  unfolding D.shifts32 E.op-imm-32-arm store-rd
-  slliw-by true p = rw (eqb-true (funct7 w) 0 p) (unfold slliw in (word-shift-is slliw Alu.Sllw slliw-fine slliw-law))
-  slliw-by false p =
-      let n : funct7 w ≡ 0 → ⊥ = eqb-false (funct7 w) 0 p in
-      let k = funct7 w * 8 + 1 in
-      rw (p, ne-eqb k 1 (λ e. n (omega arith)), ne-eqb k 5 (λ e. omega arith), ne-eqb k 261 (λ e. omega arith)) only-load
+  -- by funct7, with the funct3 t
+  abbrev Shifted-32 : ℕ → ℕ → Type 0
+  Shifted-32 t n =
+      Agrees 4 pc v (lookup D.shifts32 (n * 8 + t) (D.shiftw w) Instr.Uncovered)
+      (calls-first (load 9 (rs1 w) ∷ []) (then-store-rd (rd w) (E.op-imm-32-arm (J.imm-i w) (w / 2 ^ 20 % 4096) n t)))
 
-  srliw-by : (b c : Bool) → eqb (funct7 w) 0 ≡ b → eqb (funct7 w) 32 ≡ c
-      → Agrees 4 pc v (lookup D.shifts32 (funct7 w * 8 + 5) (D.shiftw w) Instr.Uncovered)
-      (calls-first (load 9 (rs1 w) ∷ []) (then-store-rd (rd w) (E.op-imm-32-arm (J.imm-i w) (w / 2 ^ 20 % 4096) (funct7 w) 5)))
-  unfolding D.shifts32 E.op-imm-32-arm store-rd
-  srliw-by true c p q = rw (eqb-true (funct7 w) 0 p) (unfold srliw in (word-shift-is srliw Alu.Srlw srliw-fine srliw-law))
-  srliw-by false true p q = rw (eqb-true (funct7 w) 32 q) (unfold sraiw in (word-shift-is sraiw Alu.Sraw sraiw-fine sraiw-law))
-  srliw-by false false p q =
-      let n : funct7 w ≡ 0 → ⊥ = eqb-false (funct7 w) 0 p in
-      let m : funct7 w ≡ 32 → ⊥ = eqb-false (funct7 w) 32 q in
-      let k = funct7 w * 8 + 5 in
-      rw (p, q, ne-eqb k 1 (λ e. omega arith), ne-eqb k 5 (λ e. n (omega arith)), ne-eqb k 261 (λ e. m (omega arith)))
+  slliw-by : (n : ℕ) → Shifted-32 1 n
+  unfolding D.shifts32 E.op-imm-32-arm store-rd heads member functs7 None slliw
+  slliw-by n =
+      each (Shifted-32 1) functs7 n
+      (and (word-shift-is slliw Alu.Sllw slliw-fine slliw-law)
+      (and only-load
+      done))
+      (λ r. rw (r .0, unlisted functs7 D.shifts32 n 1 (omega arith) tt r (D.shiftw w) Instr.Uncovered) only-load)
+
+  srliw-by : (n : ℕ) → Shifted-32 5 n
+  unfolding D.shifts32 E.op-imm-32-arm store-rd heads member functs7 None srliw sraiw
+  srliw-by n =
+      each (Shifted-32 5) functs7 n
+      (and (word-shift-is srliw Alu.Srlw srliw-fine srliw-law)
+      (and (word-shift-is sraiw Alu.Sraw sraiw-fine sraiw-law)
+      done))
+      (λ r.
+      rw (r .0, r .1 .0, unlisted functs7 D.shifts32 n 5 (omega arith) tt r (D.shiftw w) Instr.Uncovered)
       (uncovered-agrees r₀ 4 pc v κ z (load 9 (rs1 w) ∷ mov-imm64 10 (w / 2 ^ 20 % 4096 % 32) ∷ [])
-      (with-constant (rs1 w) (w / 2 ^ 20 % 4096 % 32) (omega arith) (omega arith)))
+      (with-constant (rs1 w) (w / 2 ^ 20 % 4096 % 32) (omega arith) (omega arith))))
 
   -- no shift has another funct3
   no-shift : (t : ℕ) → t < 8 → (t ≡ 1 → ⊥) → (t ≡ 5 → ⊥) → lookup D.shifts32 (funct7 w * 8 + t) (D.shiftw w) Instr.Uncovered ≡ Instr.Uncovered
@@ -292,11 +313,11 @@ module _ (r₀ : ℕ → ℕ) (pc : ℕ) (v : Host) (κ : Kept r₀ true v) (z :
       (λ t. Agrees 4 pc v (lookup D.imms32 t (D.imm w) (lookup D.shifts32 (funct7 w * 8 + t) (D.shiftw w) Instr.Uncovered))
       (calls-first (load 9 (rs1 w) ∷ []) (then-store-rd (rd w) (E.op-imm-32-arm (J.imm-i w) (w / 2 ^ 20 % 4096) (funct7 w) t))))
       (unfold body in (imm-is Alu.Addw))
-      (slliw-by (eqb (funct7 w) 0) refl)
+      (slliw-by (funct7 w))
       (rw (no-shift 2 (omega arith) (omega arith) (omega arith)) only-load)
       (rw (no-shift 3 (omega arith) (omega arith) (omega arith)) only-load)
       (rw (no-shift 4 (omega arith) (omega arith) (omega arith)) only-load)
-      (srliw-by (eqb (funct7 w) 0) (eqb (funct7 w) 32) refl refl)
+      (srliw-by (funct7 w))
       (rw (no-shift 6 (omega arith) (omega arith) (omega arith)) only-load)
       (rw (no-shift 7 (omega arith) (omega arith) (omega arith)) only-load)
 
