@@ -2,7 +2,7 @@
 use Prim.Native.Nat.{ℕ, _%_}
 use mathlib.Core.Path.{_≡_, refl}
 use mathlib.Core.Bool.{Bool, true, false, cond}
-use mathlib.Core.List.{[]}
+use mathlib.Core.List.{List, []}
 use native.Mathlib.Omega.{arith}
 use lib.Dec.{eqb}
 use borrow.Author.Tests.{eqb-true}
@@ -10,10 +10,11 @@ use Rattle.isa.specs.declared.classes.Class.{Class}
 use Rattle.isa.specs.declared.classes.Class.the-variants.{Load, LoadFp, MiscMem, OpImm, Auipc, OpImm32, Store, StoreFp, Amo, Op, Lui, Op32, Branch, Jalr, Jal, System, Other}
 use Rattle.isa.specs.declared.decode.Decoded32.{Decoded32}
 use Rattle.isa.specs.Classes.{class-of}
+use Rattle.emit_native.specs.declared.Emitted.{Emitted}
 use Rattle.emit_native.specs.Calls.{Emission, none}
 use Rattle.isa.specs.Decode.{decode32}
 use Rattle.emit_native.specs.Instr32.{lui, auipc, jal, jalr, branch, op-imm, op-imm-32, op-32, op, misc-mem, emit-native-instr}
-use Rattle.emit_native.specs.Parts.{InRange}
+use Rattle.emit_native.specs.Parts.{InRange, Emits}
 
 abbrev pub by-class : ℕ → ℕ → Decoded32 → Class → Emission
 by-class pc instr d Load = none []
@@ -73,8 +74,13 @@ module _ (pc instr : ℕ) where
       refl refl refl refl refl refl refl refl refl refl refl refl refl refl refl refl n
       (λ a b c′ d′ e f g h i j k l m o p q. rw (k, e, p, o, m, d′, f, l, j, c′))
 
-  pub in-class : (d : Decoded32) (c : Class) → d ≡ decode32 instr → c ≡ class-of (instr % 128) → emit-native-instr pc instr d ≡ by-class pc instr d c
+  in-class : (d : Decoded32) (c : Class) → d ≡ decode32 instr → c ≡ class-of (instr % 128) → emit-native-instr pc instr d ≡ by-class pc instr d c
   in-class d c e f = rw (f, e) (by-class-is (decode32 instr) (instr % 128))
+
+  -- what is emitted in the arm of a class k is what is emitted for the word
+  pub in-arm : (d : Decoded32) {c k : Class} → d ≡ decode32 instr → c ≡ class-of (instr % 128) → c ≡ k → {slot-offset : ℕ} {h : List ℕ} {r : Emitted}
+      → Emits slot-offset h (by-class pc instr d k) r → Emits slot-offset h (emit-native-instr pc instr d) r
+  in-arm d e f g a = rw (in-class d _ e f, g) a
 
 -- the registers of a word that was decoded
 pub in-range : (instr : ℕ) (d : Decoded32) → d ≡ decode32 instr → InRange d

@@ -1,13 +1,14 @@
 -- `emit_native_instr16`, arm by arm.
 use Prim.Native.Nat.{ℕ, _/_, _%_, _^_}
 use mathlib.Core.Bool.{Bool, cond, _&&_}
-use mathlib.Core.List.{List, [], _∷_}
+use mathlib.Core.List.{List, [], _∷_, _++_}
 use lib.Dec.{eqb}
 use Rattle.word.specs.Word.{add, shl}
 use Rattle.emit_native.specs.Hart.{C-EQ, C-NE, not-1}
 use Rattle.isa.specs.Decode.{c-funct3, c-op, c-rd, c-rs2, rd-prime, rs1-prime, rs2-prime, imm-ci, shamt, imm-addi4spn, imm-addi16sp, imm-cj, imm-cb}
-use Rattle.a64.specs.Writers.{add-x, sub-x, and-x, orr-x, eor-x, lslv-x, lsrv-x, asrv-x, cmp-x, csel-x, sxtw-x}
+use Rattle.a64.specs.Writers.{add-x, and-x, orr-x, lslv-x, lsrv-x, asrv-x, cmp-x, csel-x, sxtw-x}
 use Rattle.emit_native.specs.Calls.{Call, emit, mov-imm64, load, store, if-not-0, Emission, continue, terminate, none, calls-first}
+use Rattle.emit_native.specs.Instr32.{sub, and, or, xor, addw, subw}
 
 -- ---- 0b00
 
@@ -67,14 +68,12 @@ c-andi instr =
 unfoldable pub c-alu : ℕ → ℕ → ℕ → Emission
 c-alu subop alu2 rs1 =
     let store-rs1 : List Call = store 11 rs1 ∷ [] in
-    cond (eqb subop 0 && eqb alu2 0b00) (continue (emit (sub-x 11 9 10) ∷ store-rs1))
-    (cond (eqb subop 0 && eqb alu2 0b01) (continue (emit (eor-x 11 9 10) ∷ store-rs1))
-    (cond (eqb subop 0 && eqb alu2 0b10) (continue (emit (orr-x 11 9 10) ∷ store-rs1))
-    (cond (eqb subop 0 && eqb alu2 0b11) (continue (emit (and-x 11 9 10) ∷ store-rs1))
-    -- C.SUBW
-    (cond (eqb subop 1 && eqb alu2 0b00) (continue (emit (sub-x 11 9 10) ∷ emit (sxtw-x 11 11) ∷ store-rs1))
-    -- C.ADDW
-    (cond (eqb subop 1 && eqb alu2 0b01) (continue (emit (add-x 11 9 10) ∷ emit (sxtw-x 11 11) ∷ store-rs1))
+    cond (eqb subop 0 && eqb alu2 0b00) (continue (sub ++ store-rs1))
+    (cond (eqb subop 0 && eqb alu2 0b01) (continue (xor ++ store-rs1))
+    (cond (eqb subop 0 && eqb alu2 0b10) (continue (or ++ store-rs1))
+    (cond (eqb subop 0 && eqb alu2 0b11) (continue (and ++ store-rs1))
+    (cond (eqb subop 1 && eqb alu2 0b00) (continue (subw ++ store-rs1))
+    (cond (eqb subop 1 && eqb alu2 0b01) (continue (addw ++ store-rs1))
     (none []))))))
 
 unfoldable pub c-group : ℕ → Emission

@@ -10,10 +10,4 @@ returns c = c .terminate .ensures _ _ _ (rw (c .before .mov-imm64 .ensures, c .b
 
 pub emit-c-j-spec : {M : Type 1} → statement M
 emit-c-j-spec =
-    tie.close
-    (tie.spec
-    (λ c κs. search needs)
-    (λ c κs. search needs)
-    (λ c κs. search needs)
-    (λ c κs. search needs)
-    returns)
+    tie.close (search (tie.spec, returns, needs))

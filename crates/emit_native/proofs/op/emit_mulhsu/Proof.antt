@@ -7,16 +7,4 @@ returns c = rw (c .emit4 .ensures, c .before .sub-x .ensures, c .before .before 
 
 pub emit-mulhsu-spec : {M : Type 1} → statement M
 emit-mulhsu-spec =
-    tie.close
-    (tie.spec
-    (λ c κs. search needs)
-    (λ c κs. search needs)
-    (λ c κs. search needs)
-    (λ c κs. search needs)
-    (λ c κs. search needs)
-    (λ c κs. search needs)
-    (λ c κs. search needs)
-    (λ c κs. search needs)
-    (λ c κs. search needs)
-    (λ c κs. search needs)
-    returns)
+    tie.close (search (tie.spec, returns, needs))

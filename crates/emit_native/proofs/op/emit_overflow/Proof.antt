@@ -7,13 +7,4 @@ returns c = rw (c .emit2 .ensures, c .before .cmp-x .ensures, c .before .before 
 
 pub emit-overflow-spec : {M : Type 1} → statement M
 emit-overflow-spec =
-    tie.close
-    (tie.spec
-    (λ c κs. search needs)
-    (λ c κs. search needs)
-    (λ c κs. search needs)
-    (λ c κs. search needs)
-    (λ c κs. search needs)
-    (λ c κs. search needs)
-    (λ c κs. search needs)
-    returns)
+    tie.close (search (tie.spec, returns, needs))

@@ -7,4 +7,4 @@ returns c = rw (c .emit2 .ensures, c .before .sxtw-x2 .ensures, c .before .befor
 
 pub emit-sign-extended-spec : {M : Type 1} → statement M
 emit-sign-extended-spec =
-    tie.close (tie.spec (λ c κs. search needs) (λ c κs. search needs) (λ c κs. search needs) (λ c κs. search needs) returns)
+    tie.close (search (tie.spec, returns, needs))

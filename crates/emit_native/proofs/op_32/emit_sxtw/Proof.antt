@@ -6,4 +6,4 @@ returns : tie.Need-returns
 returns c = rw (c .emit .ensures, c .before .sxtw-x .ensures)
 
 pub emit-sxtw-spec : {M : Type 1} → statement M
-emit-sxtw-spec = tie.close (tie.spec (λ c κs. search needs) (λ c κs. search needs) returns)
+emit-sxtw-spec = tie.close (search (tie.spec, returns, needs))

@@ -7,11 +7,4 @@ returns c = rw (c .emit2 .ensures, c .before .and-x2 .ensures, c .before .before
 
 pub emit-zero-extended-spec : {M : Type 1} → statement M
 emit-zero-extended-spec =
-    tie.close
-    (tie.spec
-    (λ c κs. search needs)
-    (λ c κs. search needs)
-    (λ c κs. search needs)
-    (λ c κs. search needs)
-    (λ c κs. search needs)
-    returns)
+    tie.close (search (tie.spec, returns, needs))

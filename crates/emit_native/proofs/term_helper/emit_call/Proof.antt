@@ -9,20 +9,4 @@ returns c = λ slot-offset. rw (c .emit6 .ensures, c .before .ret .ensures, c .b
 
 pub emit-call-spec : {M : Type 1} → statement M
 emit-call-spec =
-    tie.close
-    (tie.spec
-    (λ c κs. search needs)
-    (λ c κs. search needs)
-    (λ c κs. search needs)
-    (λ c κs. search needs)
-    (λ c κs. search needs)
-    (λ c κs. search needs)
-    (λ c κs. search needs)
-    (λ c κs. search needs)
-    (λ c κs. search needs)
-    (λ c κs. search needs)
-    (λ c κs. search needs)
-    (λ c κs. search needs)
-    (λ c κs. search needs)
-    (λ c κs. search needs)
-    returns)
+    tie.close (search (tie.spec, returns, needs))

@@ -7,15 +7,4 @@ returns c = λ slot-offset. c .terminate .ensures _ _ _ (rw (c .before .emit-cal
 
 pub emit-exec-spec : {M : Type 1} → statement M
 emit-exec-spec =
-    tie.close
-    (tie.spec
-    (λ c κs. search needs)
-    (λ c κs. search needs)
-    (λ c κs. search needs)
-    (λ c κs. search needs)
-    (λ c κs. search needs)
-    (λ c κs. search needs)
-    (λ c κs. search needs)
-    (λ c κs. search needs)
-    (λ c κs. search needs)
-    returns)
+    tie.close (search (tie.spec, returns, needs))

@@ -14,10 +14,4 @@ returns-2 c = (rw (← c .before .before .supports .ensures, c .before .if1 .lef
 
 pub emit-native-term-helper16-spec : {M : Type 1} → statement M
 emit-native-term-helper16-spec =
-    tie.close
-    (tie.spec
-    (λ c κs. search needs)
-    (λ c κs. search needs)
-    returns
-    (λ c κs. search needs)
-    returns-2)
+    tie.close (search (tie.spec, returns, returns-2, needs))

@@ -7,12 +7,4 @@ returns c = rw (c .emit3 .ensures, c .before .mov-x3 .ensures, c .before .before
 
 pub emit-pointers-spec : {M : Type 1} → statement M
 emit-pointers-spec =
-    tie.close
-    (tie.spec
-    (λ c κs. search needs)
-    (λ c κs. search needs)
-    (λ c κs. search needs)
-    (λ c κs. search needs)
-    (λ c κs. search needs)
-    (λ c κs. search needs)
-    returns)
+    tie.close (search (tie.spec, returns, needs))

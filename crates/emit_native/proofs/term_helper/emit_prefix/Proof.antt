@@ -12,10 +12,4 @@ returns-2 c = λ slot-offset. rw (ne-eqb _ _ (c .before .before .before .if1 .le
 
 pub emit-prefix-spec : {M : Type 1} → statement M
 emit-prefix-spec =
-    tie.close
-    (tie.spec
-    returns
-    (λ c κs. search needs)
-    (λ c κs. search needs)
-    (λ c κs. search needs)
-    returns-2)
+    tie.close (search (tie.spec, returns, returns-2, needs))

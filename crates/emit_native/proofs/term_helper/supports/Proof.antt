@@ -19,10 +19,4 @@ returns-3 c = rw (ne-eqb _ _ (c .match .rest .0 .1), ne-eqb _ _ (c .match .rest 
 
 pub supports-spec : {M : Type 1} → statement M
 supports-spec =
-    tie.close
-    (tie.spec
-    (λ c κs. search needs)
-    (λ c κs. search needs)
-    returns
-    returns-2
-    returns-3)
+    tie.close (search (tie.spec, returns, returns-2, returns-3, needs))
