@@ -49,7 +49,7 @@ pub emitted-all-new : (h : List ℕ) (gs : List (List ℕ)) → h ≡ [] → len
 emitted-all-new h gs e f = rw e (emitted-all-fits [] gs (omega arith))
 
 -- the words of one call on an emitter that holds nothing
-pub emitted-new : (h ws p : List ℕ) → h ≡ [] → p ≡ emitted h ws → length ws ≤ instr-words → p ≡ ws
+emitted-new : (h ws p : List ℕ) → h ≡ [] → p ≡ emitted h ws → length ws ≤ instr-words → p ≡ ws
 emitted-new h ws p new e f = e ∙ rw new (emitted-fits instr-words [] ws (omega arith))
 
 -- calls after calls
@@ -167,3 +167,7 @@ constant-least rd v = omega (arith, constant-length rd v _ _ _ refl refl refl)
 pub constant-one : (h : List ℕ) (rd v : ℕ) → length h + length (mov-imm64 rd v) ≤ instr-words
     → emitted-all h (parts rd v) ≡ emitted h (mov-imm64 rd v)
 constant-one h rd v f = rw constant-parts (emitted-all-one h (parts rd v) (rw constant-parts at f))
+
+-- a constant on an emitter that holds nothing
+pub constant-new : (h p : List ℕ) (rd v : ℕ) → h ≡ [] → p ≡ emitted h (mov-imm64 rd v) → p ≡ mov-imm64 rd v
+constant-new h p rd v new e = let few = constant-most rd v in emitted-new h (mov-imm64 rd v) p new e (omega arith)

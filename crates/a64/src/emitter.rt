@@ -5,7 +5,7 @@ ghost use mathlib.Core.List.{[], _∷_};
 ghost use lib.ListN.{length, take};
 ghost use Rattle.le.specs.Le.{store};
 ghost use Rattle.a64.specs.Parts.{held, block-words, emitted-in, emitted, emitted-if, Added, Written};
-ghost use Rattle.a64.specs.Writers as W;
+ghost use Rattle.a64.specs.Writers as Writers;
 ghost use Rattle.rules.specs.Limits.{instr-words, max-words};
 use rules::INSTR_WORDS;
 use rules::MAX_WORDS;
@@ -48,7 +48,7 @@ fn emit_at_if(words: &mut [u32; INSTR_WORDS], at: usize, test: bool, w: u32) -> 
 // MOVK of halfword hw, where it is not 0.
 fn upper_at(words: &mut [u32; INSTR_WORDS], at: usize, rd: u8, hw: u8, p: u32) -> usize
     requires { ⌜ (length (now words) ≡ instr-words) × (rd < 32) × (hw < 4) × (p < 65536) ⌝ }
-    ensures { λ r. ⌜ Added instr-words (now (words .entry)) at (now (words .exit)) r (W.movk rd hw p) ⌝ }
+    ensures { λ r. ⌜ Added instr-words (now (words .entry)) at (now (words .exit)) r (Writers.movk rd hw p) ⌝ }
 {
     if p == 0 {
         at
@@ -63,7 +63,7 @@ fn upper_at(words: &mut [u32; INSTR_WORDS], at: usize, rd: u8, hw: u8, p: u32) -
 
 // 1 where p is not 0, which is how many words it takes.
 fn upper_count(p: u32) -> usize
-    ensures { λ r. ⌜ (r ≤ 1) × ((rd hw : ℕ) → length (W.movk rd hw p) ≡ r) ⌝ }
+    ensures { λ r. ⌜ (r ≤ 1) × ((rd hw : ℕ) → length (Writers.movk rd hw p) ≡ r) ⌝ }
 {
     if p == 0 { 0 } else { 1 }
 }
@@ -71,7 +71,7 @@ fn upper_count(p: u32) -> usize
 // A constant after the first `at`, or nothing where its words do not all fit; the new count.
 fn mov_imm64_at(words: &mut [u32; INSTR_WORDS], at: usize, rd: u8, val: u64) -> usize
     requires { ⌜ (length (now words) ≡ instr-words) × (rd < 32) ⌝ }
-    ensures { λ r. ⌜ Added instr-words (now (words .entry)) at (now (words .exit)) r (W.mov-imm64 rd val) ⌝ }
+    ensures { λ r. ⌜ Added instr-words (now (words .entry)) at (now (words .exit)) r (Writers.mov-imm64 rd val) ⌝ }
 {
     let lo = (val % 0x1_0000) as u32;
     let p1 = (val / 0x1_0000 % 0x1_0000) as u32;
@@ -172,7 +172,7 @@ impl InstrEmitter {
     // A constant more, or unchanged where its words do not all fit.
     pub fn mov_imm64(mut self, rd: u8, val: u64) -> Self
         requires { ⌜ rd < 32 ⌝ }
-        ensures { λ r. ⌜ held r ≡ emitted (held self) (W.mov-imm64 rd val) ⌝ }
+        ensures { λ r. ⌜ held r ≡ emitted (held self) (Writers.mov-imm64 rd val) ⌝ }
     {
         let at = self.len;
         let n = mov_imm64_at(&mut self.words, at, rd, val);
@@ -217,7 +217,7 @@ impl A64Emitter {
     // A constant more, or unchanged where its words do not all fit.
     pub fn mov_imm64(mut self, rd: u8, val: u64) -> Self
         requires { ⌜ rd < 32 ⌝ }
-        ensures { λ r. ⌜ block-words r ≡ emitted-in max-words (block-words self) (W.mov-imm64 rd val) ⌝ }
+        ensures { λ r. ⌜ block-words r ≡ emitted-in max-words (block-words self) (Writers.mov-imm64 rd val) ⌝ }
     {
         let part = InstrEmitter::new().mov_imm64(rd, val);
         let at = self.len;

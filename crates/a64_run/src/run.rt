@@ -7,7 +7,7 @@ ghost use Rattle.le.specs.Le.{load};
 ghost use Rattle.a64.specs.Forms.{decode};
 ghost use Rattle.a64_run.specs.Exec.{machine};
 ghost use Rattle.a64_run.specs.Parts.{Executed};
-ghost use Rattle.a64_run.specs.Run as R;
+ghost use Rattle.a64_run.specs.Run as A64;
 use crate::exec;
 use crate::exec::Outcome;
 use crate::exec::Stepped;
@@ -40,7 +40,7 @@ pub struct Answer {
 }
 
 fn end_number(e: End) -> u32
-    ensures { λ r. ⌜ r ≡ R.end-number e ⌝ }
+    ensures { λ r. ⌜ r ≡ A64.end-number e ⌝ }
 {
     match e {
         End::OffEnd => 1,
@@ -84,7 +84,7 @@ fn run_words(
     memory: &mut [u8],
     base: u64,
 ) -> Ran
-    ensures { λ r. ⌜ R.ran (r .end) (r .steps) (R.at-entry (r .state) base (now (memory .exit))) ≡ R.whole (now (block .entry)) address state budget (now (memory .entry)) base ⌝ }
+    ensures { λ r. ⌜ A64.ran (r .end) (r .steps) (A64.at-entry (r .state) base (now (memory .exit))) ≡ A64.whole (now (block .entry)) address state budget (now (memory .entry)) base ⌝ }
 {
     let count = block.len() / 4;
     let mut at = state;
@@ -130,7 +130,7 @@ fn beyond(base: u64, len: u64) -> bool
 }
 
 fn refused(n: u32, state: A64State) -> Answer
-    ensures { λ r. ⌜ r ≡ R.refused n state ⌝ }
+    ensures { λ r. ⌜ r ≡ A64.refused n state ⌝ }
 {
     Answer {
         refusal: n,
@@ -149,7 +149,7 @@ pub fn a64_run(
     memory: &mut [u8],
     base: u64,
 ) -> Answer
-    ensures { λ r. ⌜ R.result r (now (memory .exit)) ≡ R.a64-run (now (block .entry)) address state budget (now (memory .entry)) base ⌝ }
+    ensures { λ r. ⌜ A64.result r (now (memory .exit)) ≡ A64.a64-run (now (block .entry)) address state budget (now (memory .entry)) base ⌝ }
 {
     if block.len() % 4 != 0 {
         return refused(refusals::BLOCK_LENGTH, state);

@@ -4,7 +4,7 @@ use mathlib.Core.Bool.{cond}
 use mathlib.Core.List.{List, [], _∷_, _++_, map, flatten}
 use lib.Dec.{eqb}
 use Rattle.a64.specs.Writers.{ldr-x, str-x}
-use Rattle.a64.specs.Writers as W
+use Rattle.a64.specs.Writers as Writers
 use Rattle.emit_native.specs.declared.EmitFlow.{EmitFlow}
 use Rattle.emit_native.specs.declared.EmitFlow.the-variants.{Continue, Terminate, None}
 
@@ -32,7 +32,7 @@ load-word rust slot-offset rt n = ldr-x rt 0 (reg-off slot-offset n)
 -- the words that a call adds
 abbrev pub call-words : Dialect → ℕ → Call → List ℕ
 call-words d slot-offset (emit w) = w ∷ []
-call-words d slot-offset (mov-imm64 rd val) = W.mov-imm64 rd val
+call-words d slot-offset (mov-imm64 rd val) = Writers.mov-imm64 rd val
 call-words d slot-offset (load rt n) = load-word d slot-offset rt n ∷ []
 call-words d slot-offset (store rt n) = str-x rt 0 (reg-off slot-offset n) ∷ []
 

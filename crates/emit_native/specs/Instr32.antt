@@ -3,7 +3,7 @@ use Prim.Native.Nat.{ℕ, _/_, _%_, _^_}
 use mathlib.Core.Bool.{cond, _&&_, _||_}
 use mathlib.Core.List.{List, [], _∷_, _++_}
 use lib.Dec.{eqb}
-use Rattle.word.specs.Word as Word
+use Rattle.word.specs.Word as W
 use Rattle.isa.specs.declared.decode.Decoded32.{Decoded32}
 use Rattle.isa.specs.Isa.{OPCODE-LUI, OPCODE-AUIPC, OPCODE-JAL, OPCODE-JALR, OPCODE-BRANCH, OPCODE-OP-IMM, OPCODE-OP, OPCODE-OP-IMM-32, OPCODE-OP-32, OPCODE-MISC-MEM, F3-ADD-SUB, F3-SLL, F3-SLT, F3-SLTU, F3-XOR, F3-SRL-SRA, F3-OR, F3-AND, F3-BEQ, F3-BNE, F3-BLT, F3-BGE, F3-BLTU, F3-BGEU, F3-FENCE, F3-FENCE-I, F7-BASE, F7-SUB-SRA, F7-MULDIV}
 use Rattle.emit_native.specs.Hart.{C-EQ, C-NE, C-CS, C-CC, C-MI, C-GE, C-LT, u64-MAX, i64-MIN, not-1}
@@ -15,19 +15,19 @@ unfoldable pub lui : ℕ → Decoded32 → Emission
 lui instr d = continue (if-not-0 (d .rd) (mov-imm64 11 (imm-u instr) ∷ store 11 (d .rd) ∷ []))
 
 unfoldable pub auipc : ℕ → ℕ → Decoded32 → Emission
-auipc pc instr d = continue (if-not-0 (d .rd) (mov-imm64 11 (Word.add pc (imm-u instr)) ∷ store 11 (d .rd) ∷ []))
+auipc pc instr d = continue (if-not-0 (d .rd) (mov-imm64 11 (W.add pc (imm-u instr)) ∷ store 11 (d .rd) ∷ []))
 
 unfoldable pub jal : ℕ → ℕ → Decoded32 → Emission
 jal pc instr d =
     terminate
-    (if-not-0 (d .rd) (mov-imm64 11 (Word.add pc 4) ∷ store 11 (d .rd) ∷ [])
-    ++ (mov-imm64 0 (Word.add pc (imm-j instr)) ∷ []))
+    (if-not-0 (d .rd) (mov-imm64 11 (W.add pc 4) ∷ store 11 (d .rd) ∷ [])
+    ++ (mov-imm64 0 (W.add pc (imm-j instr)) ∷ []))
 
 unfoldable pub jalr : ℕ → ℕ → Decoded32 → Emission
 jalr pc instr d =
     terminate
     (load 9 (d .rs1)
-    ∷ (if-not-0 (d .rd) (mov-imm64 11 (Word.add pc 4) ∷ store 11 (d .rd) ∷ [])
+    ∷ (if-not-0 (d .rd) (mov-imm64 11 (W.add pc 4) ∷ store 11 (d .rd) ∷ [])
     ++ (mov-imm64 10 (imm-i instr)
     ∷ emit (add-x 11 9 10)
     ∷ mov-imm64 12 not-1
@@ -40,8 +40,8 @@ branch-on pc instr d condition =
     (load 9 (d .rs1)
     ∷ load 10 (d .rs2)
     ∷ emit (cmp-x 9 10)
-    ∷ mov-imm64 12 (Word.add pc (imm-b instr))
-    ∷ mov-imm64 13 (Word.add pc 4)
+    ∷ mov-imm64 12 (W.add pc (imm-b instr))
+    ∷ mov-imm64 13 (W.add pc 4)
     ∷ emit (csel-x 0 12 13 condition)
     ∷ [])
 

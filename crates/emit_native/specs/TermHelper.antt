@@ -11,7 +11,7 @@ use Rattle.emit_native.specs.Hart.{MEM-OP-LB, MEM-OP-LH, MEM-OP-LW, MEM-
 use Rattle.isa.specs.Decode.{imm-i, imm-s, c-funct3, c-op}
 use Rattle.a64.specs.Writers.{add-x, ldr-x, str-x, mov-x, sub-sp-imm, add-sp-imm, blr, ret}
 use Rattle.emit_native.specs.Calls.{Call, emit, mov-imm64, load, if-not-0, Emission, terminate}
-use Rattle.emit_native.specs.Calls as C
+use Rattle.emit_native.specs.Calls as Calls
 
 -- from the helper's address in X16 on, the same in all three
 abbrev pub call-helper : ℕ → ℕ → List Call
@@ -89,11 +89,11 @@ store-calls helper mem-op pc instr d prefix-count =
     ∷ call-helper helper prefix-count
 
 abbrev pub with-load : Host → ℕ → ℕ → Decoded32 → ℕ → Option ℕ → Emission
-with-load h pc instr d prefix-count none = C.none []
+with-load h pc instr d prefix-count none = Calls.none []
 with-load h pc instr d prefix-count (some mem-op) = terminate (load-calls (h .«memory_helper») mem-op pc instr d prefix-count)
 
 abbrev pub with-store : Host → ℕ → ℕ → Decoded32 → ℕ → Option ℕ → Emission
-with-store h pc instr d prefix-count none = C.none []
+with-store h pc instr d prefix-count none = Calls.none []
 with-store h pc instr d prefix-count (some mem-op) = terminate (store-calls (h .«memory_helper») mem-op pc instr d prefix-count)
 
 unfoldable pub load-helper : Host → ℕ → ℕ → Decoded32 → ℕ → ℕ → Emission
@@ -104,13 +104,13 @@ store-helper h pc instr d prefix-count funct3 = with-store h pc instr d prefix-c
 
 unfoldable pub opcode-helper : Host → ℕ → ℕ → Decoded32 → ℕ → ℕ → Emission
 opcode-helper h pc instr d prefix-count opcode =
-    cond (eqb opcode OPCODE-SYSTEM) (C.none [])
+    cond (eqb opcode OPCODE-SYSTEM) (Calls.none [])
     (cond (eqb opcode OPCODE-LOAD) (load-helper h pc instr d prefix-count (d .funct3))
     (cond (eqb opcode OPCODE-STORE) (store-helper h pc instr d prefix-count (d .funct3))
     (cond (eqb opcode OPCODE-LOAD-FP) (terminate (call-exec (h .helper32) pc instr prefix-count))
     (cond (eqb opcode OPCODE-STORE-FP) (terminate (call-exec (h .helper32) pc instr prefix-count))
     (cond (eqb opcode OPCODE-AMO) (terminate (call-exec (h .helper32) pc instr prefix-count))
-    (C.none []))))))
+    (Calls.none []))))))
 
 unfoldable pub emit-native-term-helper32 : Host → ℕ → ℕ → Decoded32 → ℕ → Emission
 emit-native-term-helper32 h pc instr d prefix-count = opcode-helper h pc instr d prefix-count (d .opcode)
@@ -124,4 +124,4 @@ supports op funct3 = cond (eqb op 0b00) (memory-funct3 funct3) (cond (eqb op 0b1
 
 unfoldable pub emit-native-term-helper16 : Host → ℕ → ℕ → ℕ → Emission
 emit-native-term-helper16 h pc instr prefix-count =
-    cond (supports (c-op instr) (c-funct3 instr)) (terminate (call-exec (h .helper16) pc instr prefix-count)) (C.none [])
+    cond (supports (c-op instr) (c-funct3 instr)) (terminate (call-exec (h .helper16) pc instr prefix-count)) (Calls.none [])

@@ -8,10 +8,10 @@ use Rattle.emit_native.specs.declared.Host.{Host}
 use Rattle.jit_arm64.specs.Translate as T
 use Rattle.code_cache.specs.Place as P
 use Rattle.rv64.specs.declared.run.Hart.{Hart}
-use Rattle.rv64.specs.declared.run.Answer as Rv64
+use Rattle.rv64.specs.declared.run.Answer as RvAnswer
 use Rattle.rv64.specs.Run.{number, answer}
 use Rattle.a64_run.specs.declared.state.A64State.{A64State}
-use Rattle.a64_run.specs.Run as R
+use Rattle.a64_run.specs.Run as A64
 use Rattle.a64_run.specs.Nzcv.{flags-of, nzcv-of}
 use Rattle.hilofanur.specs.declared.TranslateAnswer.{TranslateAnswer}
 use Rattle.hilofanur.specs.declared.PlaceAnswer.{PlaceAnswer}
@@ -79,13 +79,13 @@ abbrev pub a64-bytes : A64State → List ℕ
 a64-bytes s = all-bytes 8 (s .x ++ (s .sp ∷ nzcv-of (s .flags) ∷ []))
 
 -- a refusal leaves the state's bytes
-abbrev pub a64-of : List ℕ → R.Result → A64Result
+abbrev pub a64-of : List ℕ → A64.Result → A64Result
 a64-of state r =
     a64-result (record { refusal = r .answer .refusal; end = r .answer .end; steps = r .answer .steps })
     (cond (eqb (r .answer .refusal) 0) (a64-bytes (r .answer .state)) state) (r .memory)
 
 abbrev pub a64-run : List ℕ → ℕ → List ℕ → ℕ → List ℕ → ℕ → A64Result
-a64-run block address state budget mem base = a64-of state (R.a64-run block address (a64-state state) budget mem base)
+a64-run block address state budget mem base = a64-of state (A64.a64-run block address (a64-state state) budget mem base)
 
 -- ---- RV64 run: the answer, and the registers' bytes
 
@@ -101,7 +101,7 @@ abbrev pub rv64-hart : List ℕ → ℕ → Hart
 rv64-hart m pc = record { x = numbers 8 32 m; pc = pc }
 
 -- a refusal leaves the registers' bytes
-abbrev pub rv64-of : List ℕ → Rv64.Answer → Rv64Result
+abbrev pub rv64-of : List ℕ → RvAnswer.Answer → Rv64Result
 rv64-of registers a =
     rv64-result (record { refusal = number (a .refusal); count = a .count; «next_pc» = a .hart .pc })
     (cond (eqb (number (a .refusal)) 0) (all-bytes 8 (a .hart .x)) registers)

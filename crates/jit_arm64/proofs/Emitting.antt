@@ -9,7 +9,7 @@ use lib.Dec.{eqb}
 use lib.ListN.{length, take, length-append, length-take}
 use borrow.Author.Tests.{eqb-true, eq-eqb, ne-eqb}
 use Rattle.rules.specs.Limits.{inline-words, instr-words, max-words}
-use Rattle.a64.specs.Writers as W
+use Rattle.a64.specs.Writers as Writers
 use Rattle.a64.specs.Parts.{held, Added}
 use Rattle.a64.proofs.Emission.{constant-length, movk-none, emitted-all-new, emitted-fits}
 use Rattle.isa.specs.declared.decode.Decoded32.{Decoded32}
@@ -74,18 +74,18 @@ module _ (h : Host) (pc instr : ℕ) where
 -- ---- a helper's call
 
 -- a constant of 16 bits is one word
-pub constant-small : (rd v : ℕ) → v < 65536 → length (W.mov-imm64 rd v) ≡ 1
+pub constant-small : (rd v : ℕ) → v < 65536 → length (Writers.mov-imm64 rd v) ≡ 1
 constant-small rd v h =
-    let a : W.part v 1 ≡ 0 = omega arith in
-    let b : W.part v 2 ≡ 0 = omega arith in
-    let c : W.part v 3 ≡ 0 = omega arith in
-    constant-length rd v 0 0 0 (ap length (movk-none rd 1 (W.part v 1) a)) (ap length (movk-none rd 2 (W.part v 2) b)) (ap length (movk-none rd 3 (W.part v 3) c))
+    let a : Writers.part v 1 ≡ 0 = omega arith in
+    let b : Writers.part v 2 ≡ 0 = omega arith in
+    let c : Writers.part v 3 ≡ 0 = omega arith in
+    constant-length rd v 0 0 0 (ap length (movk-none rd 1 (Writers.part v 1) a)) (ap length (movk-none rd 2 (Writers.part v 2) b)) (ap length (movk-none rd 3 (Writers.part v 3) c))
 
 module _ (slot-offset : ℕ) where
   -- a constant of 16 bits
   pub small : (rd v : ℕ) → v < 65536 → size slot-offset (mov-imm64 rd v ∷ []) ≡ 1
   unfolding flatten
-  small rd v h = rw (append-nil (W.mov-imm64 rd v)) (constant-small rd v h)
+  small rd v h = rw (append-nil (Writers.mov-imm64 rd v)) (constant-small rd v h)
 
   call-size : (helper k : ℕ) → k < 65536 → size slot-offset (call-helper helper k) ≤ 12
   call-size helper k h =

@@ -5,16 +5,16 @@ use mathlib.Core.Bool.{false}
 use mathlib.Core.List.{List, [], _∷_, _++_, map, flatten}
 use lib.ListN.{length, replicate}
 use Rattle.a64.specs.Emitter.{bytes}
-use Rattle.a64.specs.Writers as A
-use Rattle.le.specs.Le as L
+use Rattle.a64.specs.Writers as Writers
+use Rattle.le.specs.Le as Le
 use Rattle.word.specs.Word as W
 use Rattle.emit_native.specs.declared.Host.{Host}
 use Rattle.jit_arm64.specs.Translate as T
 use Rattle.jit_arm64.specs.Block as B
-use Rattle.emit_native.specs.Calls as C
-use Rattle.isa.specs.Decode as D
-use Rattle.emit_native.specs.Instr16 as I
-use Rattle.emit_native.specs.TermHelper as H
+use Rattle.emit_native.specs.Calls as Calls
+use Rattle.isa.specs.Decode as Rust
+use Rattle.emit_native.specs.Instr16 as I16
+use Rattle.emit_native.specs.TermHelper as TH
 
 host : Host
 host = record { «slot_offset» = 0; «memory_helper» = 0x10000; helper32 = 0x20000; helper16 = 0x30000; «ignore_ebreak» = false }
@@ -68,5 +68,5 @@ said r =
     (bytes (r .words) ++ replicate (32 - 4 * length (r .words)) 0xEE)
 
 all-rows : map found rows ≡ map said rows
-unfolding rows row refusing nops room found said host T.is-missing T.by-helper T.no-block T.of-block T.translate B.fetch-upper B.fetch B.emit-native B.emit-term-helper B.helped B.step B.instr-walk B.walk B.end-calls B.whole-walk B.compile-native-block C.words-in C.store-rd D.sign-extend D.imm-ci D.shamt D.imm-addi4spn D.imm-addi16sp D.imm-cj D.imm-cb I.addi4spn I.quadrant-0 I.c-addi I.c-addiw I.c-li I.c-addi16sp I.c-lui I.c-srli I.c-srai I.c-andi I.c-alu I.c-group I.c-j I.c-branch-on I.c-branch I.c-addi16sp-lui I.quadrant-1 I.c-slli I.c-jr I.c-mv I.c-ebreak I.c-jalr I.c-add I.c-jump-move-add I.quadrant-2 I.emit-native-instr16 H.supports H.emit-native-term-helper16 A.movk A.mov-imm64 L.number L.load L.bytes L.all-bytes W.asr flatten
+unfolding rows row refusing nops room found said host T.is-missing T.by-helper T.no-block T.of-block T.translate B.fetch-upper B.fetch B.emit-native B.emit-term-helper B.helped B.step B.instr-walk B.walk B.end-calls B.whole-walk B.compile-native-block Calls.words-in Calls.store-rd Rust.sign-extend Rust.imm-ci Rust.shamt Rust.imm-addi4spn Rust.imm-addi16sp Rust.imm-cj Rust.imm-cb I16.addi4spn I16.quadrant-0 I16.c-addi I16.c-addiw I16.c-li I16.c-addi16sp I16.c-lui I16.c-srli I16.c-srai I16.c-andi I16.c-alu I16.c-group I16.c-j I16.c-branch-on I16.c-branch I16.c-addi16sp-lui I16.quadrant-1 I16.c-slli I16.c-jr I16.c-mv I16.c-ebreak I16.c-jalr I16.c-add I16.c-jump-move-add I16.quadrant-2 I16.emit-native-instr16 TH.supports TH.emit-native-term-helper16 Writers.movk Writers.mov-imm64 Le.number Le.load Le.bytes Le.all-bytes W.asr flatten
 all-rows = refl

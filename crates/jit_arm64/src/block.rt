@@ -4,7 +4,7 @@ ghost use mathlib.Core.List.{_++_};
 ghost use Prim.Native.Nat.{ℕ, _≤_, min};
 ghost use Rattle.rules.specs.Limits.{max-instrs, max-slot-offset};
 ghost use Rattle.a64.specs.Parts.{held, emitted-all};
-ghost use Rattle.emit_native.specs.Calls as C;
+ghost use Rattle.emit_native.specs.Calls as Calls;
 ghost use Rattle.jit_arm64.specs.Block.{emit-native, emit-term-helper, return-calls, end-calls, whole-walk};
 ghost use Rattle.jit_arm64.specs.Parts.{Narrow, Compiled, BlockOf, first-refusal};
 use crate::fetch::fetch;
@@ -50,7 +50,7 @@ fn emit_native(host: Host, pc: u64, instr: u32) -> Emitted
 
 // The words of a helper's call, after those that the inline emitter left.
 fn emit_term_helper(em: InstrEmitter, host: Host, pc: u64, instr: u32, emitted: u32) -> Emitted
-    requires { ⌜ (host .«slot_offset» ≤ max-slot-offset) × Narrow instr × (emitted ≤ max-instrs) × (held em ≡ C.words (host .«slot_offset») (emit-native host pc instr .calls)) ⌝ }
+    requires { ⌜ (host .«slot_offset» ≤ max-slot-offset) × Narrow instr × (emitted ≤ max-instrs) × (held em ≡ Calls.words (host .«slot_offset») (emit-native host pc instr .calls)) ⌝ }
     ensures { λ r. ⌜ Compiled (host .«slot_offset») (emit-native host pc instr .calls ++ emit-term-helper host pc instr emitted .calls) (emit-term-helper host pc instr emitted .flow) r ⌝ }
 {
     if instr % 4 != 3 {
@@ -86,7 +86,7 @@ pub fn first_refusal(guest: &[u8], pc: u64, host: Host) -> u32
 
 // The count into X1, RET.
 fn emit_return(em: InstrEmitter, count: u32) -> InstrEmitter
-    ensures { λ r. ⌜ ((slot-offset : ℕ) → held r ≡ emitted-all (held em) (C.groups slot-offset (return-calls count))) ⌝ }
+    ensures { λ r. ⌜ ((slot-offset : ℕ) → held r ≡ emitted-all (held em) (Calls.groups slot-offset (return-calls count))) ⌝ }
 {
     let em = em.mov_imm64(1, count as u64);
     em.emit(A64Emitter::ret())
@@ -95,7 +95,7 @@ fn emit_return(em: InstrEmitter, count: u32) -> InstrEmitter
 // The end of a block, by why the walk stopped: none after a helper's call, and the next PC unless the last instruction set it.
 fn emit_end(stop: Stop, pc: u64, count: u32) -> InstrEmitter
     requires { ⌜ count ≤ max-instrs ⌝ }
-    ensures { λ r. ⌜ ((slot-offset : ℕ) → held r ≡ C.words slot-offset (end-calls stop pc count)) ⌝ }
+    ensures { λ r. ⌜ ((slot-offset : ℕ) → held r ≡ Calls.words slot-offset (end-calls stop pc count)) ⌝ }
 {
     let em = InstrEmitter::new();
     if let Stop::Helper = stop {

@@ -2,7 +2,7 @@
 ghost use mathlib.Core.Path.{_≡_};
 ghost use Prim.Native.Nat.{_≤_};
 ghost use lib.ListN.{length, drop};
-ghost use Rattle.rv64.specs.Run as R;
+ghost use Rattle.rv64.specs.Run as Rv64;
 ghost use Rattle.rv64.specs.Parts as S;
 use crate::compressed::step16;
 use crate::decode::Instr;
@@ -105,7 +105,7 @@ fn from_flow(flow: Flow, size: usize) -> Stepped
 // The instruction at a place in the guest bytes, and at pc, on the registers.
 fn step(x: &mut [u64; 32], guest: &[u8], at: usize, ignore_ebreak: bool, pc: u64) -> Stepped
     requires { ⌜ at ≤ length (now guest) ⌝ }
-    ensures { λ r. ⌜ (r ≡ S.stepped (R.fetch «ignore_ebreak» (drop at (now (guest .entry)))) pc (now (x .entry))) × (now (x .exit) ≡ S.after (R.fetch «ignore_ebreak» (drop at (now (guest .entry)))) pc (now (x .entry))) ⌝ }
+    ensures { λ r. ⌜ (r ≡ S.stepped (Rv64.fetch «ignore_ebreak» (drop at (now (guest .entry)))) pc (now (x .entry))) × (now (x .exit) ≡ S.after (Rv64.fetch «ignore_ebreak» (drop at (now (guest .entry)))) pc (now (x .entry))) ⌝ }
 {
     match fetch(guest, at) {
         Encoding::Missing => Stepped::NotFetched,
@@ -116,7 +116,7 @@ fn step(x: &mut [u64; 32], guest: &[u8], at: usize, ignore_ebreak: bool, pc: u64
 
 // At most limit instructions, the first at the hart's PC.
 pub fn run(guest: &[u8], limit: u32, ignore_ebreak: bool, hart: Hart) -> Ran
-    ensures { λ r. ⌜ r ≡ R.run «ignore_ebreak» limit 0 (now (guest .entry)) hart ⌝ }
+    ensures { λ r. ⌜ r ≡ Rv64.run «ignore_ebreak» limit 0 (now (guest .entry)) hart ⌝ }
 {
     let mut h = hart;
     let mut at: usize = 0;
@@ -151,7 +151,7 @@ pub fn run(guest: &[u8], limit: u32, ignore_ebreak: bool, hart: Hart) -> Ran
 
 // The number of a refusal, 0 for none.
 pub fn number(q: Refusal) -> u32
-    ensures { λ r. ⌜ r ≡ R.number q ⌝ }
+    ensures { λ r. ⌜ r ≡ Rv64.number q ⌝ }
 {
     match q {
         Refusal::Accepted => 0,
@@ -164,7 +164,7 @@ pub fn number(q: Refusal) -> u32
 }
 
 fn clamped(limit: u32) -> u32
-    ensures { λ r. ⌜ r ≡ R.clamped limit ⌝ }
+    ensures { λ r. ⌜ r ≡ Rv64.clamped limit ⌝ }
 {
     if limit < MAX_INSTRS {
         limit
@@ -198,7 +198,7 @@ fn at_first(stop: Stop) -> Refusal
 
 // The operation RV64 run.
 pub fn rv64_run(guest: &[u8], hart: Hart, limit: u32, ignore_ebreak: bool) -> Answer
-    ensures { λ r. ⌜ r ≡ R.answer (now (guest .entry)) hart limit «ignore_ebreak» ⌝ }
+    ensures { λ r. ⌜ r ≡ Rv64.answer (now (guest .entry)) hart limit «ignore_ebreak» ⌝ }
 {
     let x = hart.x;
     if limit == 0 {

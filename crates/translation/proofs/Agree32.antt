@@ -18,10 +18,10 @@ use Rattle.rv64.specs.Alu.{value}
 use Rattle.rv64.specs.Decode as D
 use Rattle.rv64.specs.Decode.{Table, lookup}
 use Rattle.emit_native.specs.Calls.{Call, mov-imm64, load, Emission, continue, none, calls-first, store-rd, then-store-rd}
-use Rattle.isa.specs.Decode as J
-use Rattle.emit_native.specs.Instr32 as E
+use Rattle.isa.specs.Decode as Rust
+use Rattle.emit_native.specs.Instr32 as I32
 use Rattle.isa.proofs.Decoding.{imm-i-is, imm-b-is, imm-u-is, imm-j-is}
-use Rattle.translation.proofs.Calls.{Host, Kept, calls-run}
+use Rattle.translation.proofs.Calls.{Model, Kept, calls-run}
 use Rattle.translation.proofs.Alus.{body, slliw, srliw, sraiw, body-law, slliw-law, srliw-law, sraiw-law}
 use Rattle.translation.proofs.Instrs.{Agrees, Fine, nothing, one, two, with-constant, body-fine, slliw-fine, srliw-fine, sraiw-fine, condition, op-agrees, imm-agrees, lui-agrees, auipc-agrees, jal-agrees, jalr-agrees, branch-agrees, nop-agrees, fence-i-agrees, uncovered-agrees, helper-agrees}
 
@@ -138,23 +138,23 @@ rows-are : (t : Table Alu) (arm : ℕ → ℕ → Emission) → T (heads functs 
 rows-are t arm h rows rest f7 =
     each (Row t arm) functs f7 rows (λ r f3 l. rw (rest f7 f3 r, no-entry functs t f7 f3 l h r))
 
-op-rows : (f7 : ℕ) → Row D.ops E.op-arm f7
-unfolding D.ops E.op-arm body find heads member functs None
+op-rows : (f7 : ℕ) → Row D.ops I32.op-arm f7
+unfolding D.ops I32.op-arm body find heads member functs None
 op-rows =
-    rows-are D.ops E.op-arm tt
-    (and (digit (At D.ops E.op-arm 0) refl refl refl refl refl refl refl refl)
-    (and (digit (At D.ops E.op-arm 32) refl refl refl refl refl refl refl refl)
-    (and (digit (At D.ops E.op-arm 1) refl refl refl refl refl refl refl refl)
+    rows-are D.ops I32.op-arm tt
+    (and (digit (At D.ops I32.op-arm 0) refl refl refl refl refl refl refl refl)
+    (and (digit (At D.ops I32.op-arm 32) refl refl refl refl refl refl refl refl)
+    (and (digit (At D.ops I32.op-arm 1) refl refl refl refl refl refl refl refl)
     done)))
     (λ f7 f3 r. rw (r .0, r .1 .0, r .1 .1 .0))
 
-op-32-rows : (f7 : ℕ) → Row D.ops32 E.op-32-arm f7
-unfolding D.ops32 E.op-32-arm body find heads member functs None
+op-32-rows : (f7 : ℕ) → Row D.ops32 I32.op-32-arm f7
+unfolding D.ops32 I32.op-32-arm body find heads member functs None
 op-32-rows =
-    rows-are D.ops32 E.op-32-arm tt
-    (and (digit (At D.ops32 E.op-32-arm 0) refl refl refl refl refl refl refl refl)
-    (and (digit (At D.ops32 E.op-32-arm 32) refl refl refl refl refl refl refl refl)
-    (and (digit (At D.ops32 E.op-32-arm 1) refl refl refl refl refl refl refl refl)
+    rows-are D.ops32 I32.op-32-arm tt
+    (and (digit (At D.ops32 I32.op-32-arm 0) refl refl refl refl refl refl refl refl)
+    (and (digit (At D.ops32 I32.op-32-arm 32) refl refl refl refl refl refl refl refl)
+    (and (digit (At D.ops32 I32.op-32-arm 1) refl refl refl refl refl refl refl refl)
     done)))
     (λ f7 f3 r. rw (r .0, r .1 .0, r .1 .1 .0))
 
@@ -191,7 +191,7 @@ opcode-of n =
 low-fields : (w : ℕ) → (rd w < 32) × (rs1 w < 32) × (rs2 w < 32)
 low-fields w = (omega arith, omega arith, omega arith)
 
-module _ (r₀ : ℕ → ℕ) (pc : ℕ) (v : Host) (κ : Kept r₀ true v) (z : getD (v .slots) 0 0 ≡ 0) (w : ℕ) (hw : w < 2 ^ 32) where
+module _ (r₀ : ℕ → ℕ) (pc : ℕ) (v : Model) (κ : Kept r₀ true v) (z : getD (v .slots) 0 0 ≡ 0) (w : ℕ) (hw : w < 2 ^ 32) where
   f3-lt : funct3 w < 8
   f3-lt = omega arith
 
@@ -207,7 +207,7 @@ module _ (r₀ : ℕ → ℕ) (pc : ℕ) (v : Host) (κ : Kept r₀ true v) (z :
       rw (found t (D.funct10 w) (D.reg w) Instr.Uncovered, rows (funct7 w) (funct3 w) f3-lt) (op-by (find t (D.funct10 w)))
 
   -- with the immediate of type I
-  imm-is : (k : Alu) → Agrees 4 pc v (D.imm w k) (calls-first (load 9 (rs1 w) ∷ []) (then-store-rd (rd w) (continue (mov-imm64 10 (J.imm-i w) ∷ body k))))
+  imm-is : (k : Alu) → Agrees 4 pc v (D.imm w k) (calls-first (load 9 (rs1 w) ∷ []) (then-store-rd (rd w) (continue (mov-imm64 10 (Rust.imm-i w) ∷ body k))))
   imm-is k =
       rw (imm-i-is w hw)
       (imm-agrees r₀ 4 pc v κ z (body k) k (rd w) (rs1 w) (i-imm w) (body-fine k) (λ u a b. body-law k u a (rw b (omega arith))) (omega arith) (omega arith) (omega arith))
@@ -230,10 +230,10 @@ module _ (r₀ : ℕ → ℕ) (pc : ℕ) (v : Host) (κ : Kept r₀ true v) (z :
   abbrev Shifted : ℕ → ℕ → Type 0
   Shifted t n =
       w / 2 ^ 26 % 64 ≡ n → Agrees 4 pc v (lookup D.shifts (n * 8 + t) (D.shift w) Instr.Uncovered)
-      (calls-first (load 9 (rs1 w) ∷ []) (then-store-rd (rd w) (E.op-imm-arm (J.imm-i w) (w / 2 ^ 20 % 4096) t)))
+      (calls-first (load 9 (rs1 w) ∷ []) (then-store-rd (rd w) (I32.op-imm-arm (Rust.imm-i w) (w / 2 ^ 20 % 4096) t)))
 
   slli-by : (n : ℕ) → Shifted 1 n
-  unfolding D.shifts E.op-imm-arm store-rd heads member functs6 None
+  unfolding D.shifts I32.op-imm-arm store-rd heads member functs6 None
   slli-by n =
       each (Shifted 1) functs6 n
       (and (λ e. rw (hi-is, e) (unfold body in (shift-is Alu.Sll)))
@@ -242,7 +242,7 @@ module _ (r₀ : ℕ → ℕ) (pc : ℕ) (v : Host) (κ : Kept r₀ true v) (z :
       (λ r e. rw (hi-is, e, r .0, unlisted functs6 D.shifts n 1 (omega arith) tt r (D.shift w) Instr.Uncovered) only-load)
 
   srli-by : (n : ℕ) → Shifted 5 n
-  unfolding D.shifts E.op-imm-arm store-rd heads member functs6 None
+  unfolding D.shifts I32.op-imm-arm store-rd heads member functs6 None
   srli-by n =
       each (Shifted 5) functs6 n
       (and (λ e. rw (hi-is, e) (unfold body in (shift-is Alu.Srl)))
@@ -254,17 +254,17 @@ module _ (r₀ : ℕ → ℕ) (pc : ℕ) (v : Host) (κ : Kept r₀ true v) (z :
       (with-constant (rs1 w) (w / 2 ^ 20 % 4096 % 64) (omega arith) (omega arith))))
 
   op-imm-by : (t : ℕ) → t < 8 → Agrees 4 pc v (lookup D.imms t (D.imm w) (lookup D.shifts (w / 2 ^ 26 % 64 * 8 + t) (D.shift w) Instr.Uncovered))
-      (calls-first (load 9 (rs1 w) ∷ []) (then-store-rd (rd w) (E.op-imm-arm (J.imm-i w) (w / 2 ^ 20 % 4096) t)))
-  unfolding D.imms E.op-imm-arm store-rd
+      (calls-first (load 9 (rs1 w) ∷ []) (then-store-rd (rd w) (I32.op-imm-arm (Rust.imm-i w) (w / 2 ^ 20 % 4096) t)))
+  unfolding D.imms I32.op-imm-arm store-rd
   op-imm-by =
       digit
       (λ t. Agrees 4 pc v (lookup D.imms t (D.imm w) (lookup D.shifts (w / 2 ^ 26 % 64 * 8 + t) (D.shift w) Instr.Uncovered))
-      (calls-first (load 9 (rs1 w) ∷ []) (then-store-rd (rd w) (E.op-imm-arm (J.imm-i w) (w / 2 ^ 20 % 4096) t))))
+      (calls-first (load 9 (rs1 w) ∷ []) (then-store-rd (rd w) (I32.op-imm-arm (Rust.imm-i w) (w / 2 ^ 20 % 4096) t))))
       (unfold body in (imm-is Alu.Add)) (slli-by (w / 2 ^ 26 % 64) refl) (unfold body in (imm-is Alu.Slt)) (unfold body in (imm-is Alu.Sltu))
       (unfold body in (imm-is Alu.Xor)) (srli-by (w / 2 ^ 26 % 64) refl) (unfold body in (imm-is Alu.Or)) (unfold body in (imm-is Alu.And))
 
   -- OP-IMM-32: the shifts of a word
-  word-shift-is : (cs : List Call) (k : Alu) → Fine cs → ((u : Host) → u .r 10 < 32 → calls-run cs u .r 11 ≡ value k (u .r 9) (u .r 10))
+  word-shift-is : (cs : List Call) (k : Alu) → Fine cs → ((u : Model) → u .r 10 < 32 → calls-run cs u .r 11 ≡ value k (u .r 9) (u .r 10))
       → Agrees 4 pc v (D.shiftw w k) (calls-first (load 9 (rs1 w) ∷ mov-imm64 10 (w / 2 ^ 20 % 4096 % 32) ∷ []) (then-store-rd (rd w) (continue cs)))
   word-shift-is cs k φ l =
       let e : w / 2 ^ 20 % 4096 % 32 ≡ inst 24 20 w = omega arith in
@@ -275,10 +275,10 @@ module _ (r₀ : ℕ → ℕ) (pc : ℕ) (v : Host) (κ : Kept r₀ true v) (z :
   abbrev Shifted-32 : ℕ → ℕ → Type 0
   Shifted-32 t n =
       Agrees 4 pc v (lookup D.shifts32 (n * 8 + t) (D.shiftw w) Instr.Uncovered)
-      (calls-first (load 9 (rs1 w) ∷ []) (then-store-rd (rd w) (E.op-imm-32-arm (J.imm-i w) (w / 2 ^ 20 % 4096) n t)))
+      (calls-first (load 9 (rs1 w) ∷ []) (then-store-rd (rd w) (I32.op-imm-32-arm (Rust.imm-i w) (w / 2 ^ 20 % 4096) n t)))
 
   slliw-by : (n : ℕ) → Shifted-32 1 n
-  unfolding D.shifts32 E.op-imm-32-arm store-rd heads member functs7 None slliw
+  unfolding D.shifts32 I32.op-imm-32-arm store-rd heads member functs7 None slliw
   slliw-by n =
       each (Shifted-32 1) functs7 n
       (and (word-shift-is slliw Alu.Sllw slliw-fine slliw-law)
@@ -287,7 +287,7 @@ module _ (r₀ : ℕ → ℕ) (pc : ℕ) (v : Host) (κ : Kept r₀ true v) (z :
       (λ r. rw (r .0, unlisted functs7 D.shifts32 n 1 (omega arith) tt r (D.shiftw w) Instr.Uncovered) only-load)
 
   srliw-by : (n : ℕ) → Shifted-32 5 n
-  unfolding D.shifts32 E.op-imm-32-arm store-rd heads member functs7 None srliw sraiw
+  unfolding D.shifts32 I32.op-imm-32-arm store-rd heads member functs7 None srliw sraiw
   srliw-by n =
       each (Shifted-32 5) functs7 n
       (and (word-shift-is srliw Alu.Srlw srliw-fine srliw-law)
@@ -306,12 +306,12 @@ module _ (r₀ : ℕ → ℕ) (pc : ℕ) (v : Host) (κ : Kept r₀ true v) (z :
       rw (ne-eqb k 1 (λ e. n (omega arith)), ne-eqb k 5 (λ e. m (omega arith)), ne-eqb k 261 (λ e. m (omega arith)))
 
   op-imm-32-by : (t : ℕ) → t < 8 → Agrees 4 pc v (lookup D.imms32 t (D.imm w) (lookup D.shifts32 (funct7 w * 8 + t) (D.shiftw w) Instr.Uncovered))
-      (calls-first (load 9 (rs1 w) ∷ []) (then-store-rd (rd w) (E.op-imm-32-arm (J.imm-i w) (w / 2 ^ 20 % 4096) (funct7 w) t)))
-  unfolding D.imms32 E.op-imm-32-arm store-rd
+      (calls-first (load 9 (rs1 w) ∷ []) (then-store-rd (rd w) (I32.op-imm-32-arm (Rust.imm-i w) (w / 2 ^ 20 % 4096) (funct7 w) t)))
+  unfolding D.imms32 I32.op-imm-32-arm store-rd
   op-imm-32-by =
       digit
       (λ t. Agrees 4 pc v (lookup D.imms32 t (D.imm w) (lookup D.shifts32 (funct7 w * 8 + t) (D.shiftw w) Instr.Uncovered))
-      (calls-first (load 9 (rs1 w) ∷ []) (then-store-rd (rd w) (E.op-imm-32-arm (J.imm-i w) (w / 2 ^ 20 % 4096) (funct7 w) t))))
+      (calls-first (load 9 (rs1 w) ∷ []) (then-store-rd (rd w) (I32.op-imm-32-arm (Rust.imm-i w) (w / 2 ^ 20 % 4096) (funct7 w) t))))
       (unfold body in (imm-is Alu.Addw))
       (slliw-by (funct7 w))
       (rw (no-shift 2 (omega arith) (omega arith) (omega arith)) only-load)
@@ -321,23 +321,23 @@ module _ (r₀ : ℕ → ℕ) (pc : ℕ) (v : Host) (κ : Kept r₀ true v) (z :
       (rw (no-shift 6 (omega arith) (omega arith) (omega arith)) only-load)
       (rw (no-shift 7 (omega arith) (omega arith) (omega arith)) only-load)
 
-  branch-on-is : (k : Cond) → Agrees 4 pc v (D.on w k) (E.branch-on pc w (J.decode32 w) (condition k))
-  unfolding E.branch-on
+  branch-on-is : (k : Cond) → Agrees 4 pc v (D.on w k) (I32.branch-on pc w (Rust.decode32 w) (condition k))
+  unfolding I32.branch-on
   branch-on-is k = rw (imm-b-is w hw) (branch-agrees r₀ 4 pc v κ z k (rs1 w) (rs2 w) (b-imm w) (omega arith) (omega arith))
 
   no-words : Agrees 4 pc v Instr.Uncovered (none [])
   no-words = uncovered-agrees r₀ 4 pc v κ z [] nothing
 
-  branch-by : (t : ℕ) → t < 8 → Agrees 4 pc v (lookup D.branches t (D.on w) Instr.Uncovered) (E.branch pc w (J.decode32 w) t)
-  unfolding D.branches E.branch E.branch-on condition
+  branch-by : (t : ℕ) → t < 8 → Agrees 4 pc v (lookup D.branches t (D.on w) Instr.Uncovered) (I32.branch pc w (Rust.decode32 w) t)
+  unfolding D.branches I32.branch I32.branch-on condition
   branch-by =
-      digit (λ t. Agrees 4 pc v (lookup D.branches t (D.on w) Instr.Uncovered) (E.branch pc w (J.decode32 w) t))
+      digit (λ t. Agrees 4 pc v (lookup D.branches t (D.on w) Instr.Uncovered) (I32.branch pc w (Rust.decode32 w) t))
       (branch-on-is Cond.Eq) (branch-on-is Cond.Ne) no-words no-words (branch-on-is Cond.Lt) (branch-on-is Cond.Ge) (branch-on-is Cond.Ltu) (branch-on-is Cond.Geu)
 
-  misc-mem-by : (t : ℕ) → t < 8 → funct3 w ≡ t → Agrees 4 pc v (D.misc-mem w) (E.misc-mem (J.decode32 w))
-  unfolding D.misc-mem D.fences E.misc-mem
+  misc-mem-by : (t : ℕ) → t < 8 → funct3 w ≡ t → Agrees 4 pc v (D.misc-mem w) (I32.misc-mem (Rust.decode32 w))
+  unfolding D.misc-mem D.fences I32.misc-mem
   misc-mem-by =
-      digit (λ t. funct3 w ≡ t → Agrees 4 pc v (D.misc-mem w) (E.misc-mem (J.decode32 w)))
+      digit (λ t. funct3 w ≡ t → Agrees 4 pc v (D.misc-mem w) (I32.misc-mem (Rust.decode32 w)))
       (λ e. rw e (nop-agrees r₀ 4 pc v κ z)) (λ e. rw e (fence-i-agrees r₀ 4 pc v κ z)) (λ e. rw e no-words) (λ e. rw e no-words)
       (λ e. rw e no-words) (λ e. rw e no-words) (λ e. rw e no-words) (λ e. rw e no-words)
 
@@ -353,8 +353,8 @@ module _ (r₀ : ℕ → ℕ) (pc : ℕ) (v : Host) (κ : Kept r₀ true v) (z :
   any true x y p q = p
   any false x y p q = q
 
-  by-opcode : (n : ℕ) → Opcode n → w % 128 ≡ n → Agrees 4 pc v (D.by-class (class-of (w % 128)) w) (E.emit-native-instr pc w (J.decode32 w))
-  unfolding D.by-class class-of D.op D.op32 D.op-imm D.shift-imm D.op-imm-32 D.shift-imm-32 D.branch E.emit-native-instr E.lui E.auipc E.jal E.jalr E.branch E.branch-on E.op-imm E.op-imm-32 E.op-32 E.op E.misc-mem others D.below
+  by-opcode : (n : ℕ) → Opcode n → w % 128 ≡ n → Agrees 4 pc v (D.by-class (class-of (w % 128)) w) (I32.emit-native-instr pc w (Rust.decode32 w))
+  unfolding D.by-class class-of D.op D.op32 D.op-imm D.shift-imm D.op-imm-32 D.shift-imm-32 D.branch I32.emit-native-instr I32.lui I32.auipc I32.jal I32.jalr I32.branch I32.branch-on I32.op-imm I32.op-imm-32 I32.op-32 I32.op I32.misc-mem others D.below
   by-opcode _ lui e = rw (e, imm-u-is w hw) (lui-agrees r₀ 4 pc v κ z (rd w) (u-imm w) (omega arith) (omega arith))
   by-opcode _ auipc e = rw (e, imm-u-is w hw) (auipc-agrees r₀ 4 pc v κ z (rd w) (u-imm w) (omega arith))
   by-opcode _ jal e = rw (e, imm-j-is w hw) (jal-agrees r₀ 4 pc v κ z (rd w) (j-imm w) (omega arith))
@@ -362,8 +362,8 @@ module _ (r₀ : ℕ → ℕ) (pc : ℕ) (v : Host) (κ : Kept r₀ true v) (z :
   by-opcode _ branch e = rw e (branch-by (funct3 w) f3-lt)
   by-opcode _ op-imm e = rw e (op-imm-by (funct3 w) f3-lt)
   by-opcode _ op-imm-32 e = rw e (op-imm-32-by (funct3 w) f3-lt)
-  by-opcode _ op-32 e = rw e (by-table D.ops32 E.op-32-arm op-32-rows)
-  by-opcode _ op e = rw e (by-table D.ops E.op-arm op-rows)
+  by-opcode _ op-32 e = rw e (by-table D.ops32 I32.op-32-arm op-32-rows)
+  by-opcode _ op e = rw e (by-table D.ops I32.op-arm op-rows)
   by-opcode _ misc-mem e = rw e (misc-mem-by (funct3 w) f3-lt refl)
   by-opcode n (other _ q) e =
       rw (e, q .0, q .1, q .2, q .3, q .4, q .5, q .6, q .7, q .8, q .9)
@@ -374,6 +374,6 @@ module _ (r₀ : ℕ → ℕ) (pc : ℕ) (v : Host) (κ : Kept r₀ true v) (z :
       (any (eqb n 0b0101111) Class.Amo _ (either true)
       (any (eqb n 0b1110011) Class.System Class.Other no-words no-words))))))
 
-  pub agrees32 : Agrees 4 pc v (D.decode32 w) (E.emit-native-instr pc w (J.decode32 w))
+  pub agrees32 : Agrees 4 pc v (D.decode32 w) (I32.emit-native-instr pc w (Rust.decode32 w))
   unfolding D.decode32
   agrees32 = by-opcode (w % 128) (opcode-of (w % 128)) refl

@@ -18,49 +18,49 @@ use Rattle.a64_run.proofs.Flags.{difference-sub, z-law, c-law, n-law, lt-law}
 use Rattle.rv64.specs.declared.alu.Alu.{Alu}
 use Rattle.rv64.specs.Alu.{value, quotient, remainder, quotient-u, remainder-u}
 use Rattle.emit_native.specs.Calls.{Call}
-use Rattle.emit_native.specs.Instr32 as E
-use Rattle.translation.proofs.Calls.{Host, form-step, call-step, calls-run}
+use Rattle.emit_native.specs.Instr32 as I32
+use Rattle.translation.proofs.Calls.{Model, form-step, call-step, calls-run}
 use Rattle.translation.proofs.Remainders.{rem-law, remu-law, mulhsu-law}
 
 unfoldable pub body : Alu → List Call
-body Alu.Add = E.add
-body Alu.Sub = E.sub
-body Alu.Sll = E.sll
-body Alu.Slt = E.slt
-body Alu.Sltu = E.sltu
-body Alu.Xor = E.xor
-body Alu.Srl = E.srl
-body Alu.Sra = E.sra
-body Alu.Or = E.or
-body Alu.And = E.and
-body Alu.Mul = E.mul
-body Alu.Mulh = E.mulh
-body Alu.Mulhsu = E.mulhsu
-body Alu.Mulhu = E.mulhu
-body Alu.Div = E.div
-body Alu.Divu = E.divu
-body Alu.Rem = E.rem
-body Alu.Remu = E.remu
-body Alu.Addw = E.addw
-body Alu.Subw = E.subw
-body Alu.Sllw = E.sllw
-body Alu.Srlw = E.srlw
-body Alu.Sraw = E.sraw
-body Alu.Mulw = E.mulw
-body Alu.Divw = E.divw
-body Alu.Divuw = E.divuw
-body Alu.Remw = E.remw
-body Alu.Remuw = E.remuw
+body Alu.Add = I32.add
+body Alu.Sub = I32.sub
+body Alu.Sll = I32.sll
+body Alu.Slt = I32.slt
+body Alu.Sltu = I32.sltu
+body Alu.Xor = I32.xor
+body Alu.Srl = I32.srl
+body Alu.Sra = I32.sra
+body Alu.Or = I32.or
+body Alu.And = I32.and
+body Alu.Mul = I32.mul
+body Alu.Mulh = I32.mulh
+body Alu.Mulhsu = I32.mulhsu
+body Alu.Mulhu = I32.mulhu
+body Alu.Div = I32.div
+body Alu.Divu = I32.divu
+body Alu.Rem = I32.rem
+body Alu.Remu = I32.remu
+body Alu.Addw = I32.addw
+body Alu.Subw = I32.subw
+body Alu.Sllw = I32.sllw
+body Alu.Srlw = I32.srlw
+body Alu.Sraw = I32.sraw
+body Alu.Mulw = I32.mulw
+body Alu.Divw = I32.divw
+body Alu.Divuw = I32.divuw
+body Alu.Remw = I32.remw
+body Alu.Remuw = I32.remuw
 
 -- SLLIW, SRLIW, SRAIW: their count is below 32
 unfoldable pub slliw : List Call
-slliw = E.slliw
+slliw = I32.slliw
 
 unfoldable pub srliw : List Call
-srliw = E.srliw
+srliw = I32.srliw
 
 unfoldable pub sraiw : List Call
-sraiw = E.sraiw
+sraiw = I32.sraiw
 
 less-zero : (n : ℕ) → n < 2 ^ 64 → difference n 0 ≡ n
 less-zero n h = omega arith
@@ -128,10 +128,10 @@ low-lt : (x : ℕ) → x % 2 ^ 32 < 2 ^ 64
 low-lt x = omega arith
 
 -- cs leaves the result of k in X11
-abbrev pub Computes : List Call → Alu → Host → Type 0
+abbrev pub Computes : List Call → Alu → Model → Type 0
 Computes cs k v = calls-run cs v .r 11 ≡ value k (v .r 9) (v .r 10)
 
-pub body-law : (k : Alu) (v : Host) → v .r 9 < 2 ^ 64 → v .r 10 < 2 ^ 64 → Computes (body k) k v
+pub body-law : (k : Alu) (v : Model) → v .r 9 < 2 ^ 64 → v .r 10 < 2 ^ 64 → Computes (body k) k v
 unfolding body calls-run call-step form-step value quotient remainder quotient-u remainder-u op-value holds holds-even decode
 body-law Alu.Add v hx hy = refl
 body-law Alu.Sub v hx hy = difference-sub (v .r 9) (v .r 10) hy
@@ -180,14 +180,14 @@ body-law Alu.Remuw v hx hy =
 below-32 : (y : ℕ) → y < 32 → y % 64 ≡ y % 32
 below-32 y h = omega arith
 
-pub slliw-law : (v : Host) → v .r 10 < 32 → Computes slliw Alu.Sllw v
+pub slliw-law : (v : Model) → v .r 10 < 32 → Computes slliw Alu.Sllw v
 unfolding slliw calls-run call-step form-step value op-value decode
 slliw-law v h = rw (below-32 (v .r 10) h)
 
-pub srliw-law : (v : Host) → v .r 10 < 32 → Computes srliw Alu.Srlw v
+pub srliw-law : (v : Model) → v .r 10 < 32 → Computes srliw Alu.Srlw v
 unfolding srliw calls-run call-step form-step value op-value decode
 srliw-law v h = rw (and32, below-32 (v .r 10) h)
 
-pub sraiw-law : (v : Host) → v .r 10 < 32 → Computes sraiw Alu.Sraw v
+pub sraiw-law : (v : Model) → v .r 10 < 32 → Computes sraiw Alu.Sraw v
 unfolding sraiw calls-run call-step form-step value op-value decode
 sraiw-law v h = rw (below-32 (v .r 10) h)

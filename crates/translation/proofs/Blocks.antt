@@ -1,4 +1,4 @@
--- The walk over the guest code does on the host what the ISA's run does. Assumes nothing.
+-- The walk over the guest code does on the model what the ISA's run does. Assumes nothing.
 use mathlib.Core.Path.{_≡_, refl, ap, _∙_}
 use mathlib.Core.Bool.{Bool, true, false, cond, not}
 use mathlib.Core.Option.{Option, none, some}
@@ -21,22 +21,22 @@ use Rattle.rv64.specs.declared.run.Fetched as RF
 use Rattle.rv64.specs.declared.run.Stop as RS
 use Rattle.rv64.specs.declared.run.Ran.{Ran}
 use Rattle.rv64.specs.Execute.{write, exec}
-use Rattle.rv64.specs.Decode as RD
-use Rattle.rv64.specs.Compressed as RC
-use Rattle.rv64.specs.Run as R
+use Rattle.rv64.specs.Decode as D
+use Rattle.rv64.specs.Compressed as C
+use Rattle.rv64.specs.Run as Rv64
 use Rattle.emit_native.specs.declared.EmitFlow.{EmitFlow}
-use Rattle.emit_native.specs.declared.Host as JH
+use Rattle.emit_native.specs.declared.Host.{Host}
 use Rattle.jit_arm64.specs.declared.block.Stop.{Stop}
 use Rattle.emit_native.specs.Calls.{Call, mov-imm64, Emission}
-use Rattle.emit_native.specs.Calls as JC
+use Rattle.emit_native.specs.Calls as Calls
 use Rattle.isa.specs.Isa.{OPCODE-SYSTEM, OPCODE-LOAD, OPCODE-STORE, OPCODE-LOAD-FP, OPCODE-STORE-FP, OPCODE-AMO}
-use Rattle.isa.specs.Decode as JD
-use Rattle.emit_native.specs.Instr16 as E16
-use Rattle.emit_native.specs.Instr32 as E32
+use Rattle.isa.specs.Decode as Rust
+use Rattle.emit_native.specs.Instr16 as I16
+use Rattle.emit_native.specs.Instr32 as I32
 use Rattle.emit_native.specs.TermHelper as TH
 use Rattle.jit_arm64.specs.Block.{Walk, walked, in-front, emit-native, emit-term-helper, helped, step, instr-walk, walk, fetch, fetch-upper}
 use Rattle.jit_arm64.specs.Translate.{by-helper}
-use Rattle.translation.proofs.Calls.{Host, call-step, calls-run, scratch, fits, all-fit, all-keep, AllIn, Kept, calls-kept, is-true}
+use Rattle.translation.proofs.Calls.{Model, call-step, calls-run, scratch, fits, all-fit, all-keep, AllIn, Kept, calls-kept, is-true}
 use Rattle.translation.proofs.Instrs.{run-append, fit-append, in-append, Fine, Matches, nothing}
 use Rattle.translation.proofs.Agree32.{agrees32}
 use Rattle.translation.proofs.Agree16.{agrees16}
@@ -97,8 +97,8 @@ next-calls Stop.NotFetched pc = mov-imm64 0 pc ∷ []
 abbrev pub walk-calls : Walk → List Call
 walk-calls w = w .calls ++ next-calls (w .stop) (w .pc)
 
--- the walk, from the host v, ends as the guest's run r
-pub record Walks (w : Walk) (v : Host) (r : Ran) : Type 0 where
+-- the walk, from the model v, ends as the guest's run r
+pub record Walks (w : Walk) (v : Model) (r : Ran) : Type 0 where
   pub fit : T (all-fit true (walk-calls w))
   pub range : AllIn (walk-calls w)
   pub slots : calls-run (walk-calls w) v .slots ≡ r .hart .x
@@ -106,33 +106,33 @@ pub record Walks (w : Walk) (v : Host) (r : Ran) : Type 0 where
   pub count : w .count ≡ r .count
 
 -- after calls that leave the slots alone
-stop-walks : (cs : List Call) (n pc : ℕ) (why : Stop) (rwhy : RS.Stop) (v : Host) → next-calls why pc ≡ mov-imm64 0 pc ∷ [] → Fine cs → pc < 2 ^ 64
-    → Walks (walked cs n why pc) v (R.stopped (R.hart (v .slots) pc) n rwhy)
+stop-walks : (cs : List Call) (n pc : ℕ) (why : Stop) (rwhy : RS.Stop) (v : Model) → next-calls why pc ≡ mov-imm64 0 pc ∷ [] → Fine cs → pc < 2 ^ 64
+    → Walks (walked cs n why pc) v (Rv64.stopped (Rv64.hart (v .slots) pc) n rwhy)
 stop-walks cs n pc why rwhy v e φ h =
     let to = mov-imm64 0 pc ∷ [] in
     record {
       fit = rw e (fit-append true cs to (φ .fit) (rw (φ .stay) (unfold all-fit fits scratch in tt)));
       range = rw e (in-append cs to (φ .range) (h, tt));
-      slots = rw e (ap (λ (u : Host). u .slots) (run-append cs to v) ∙ unfold calls-run call-step in (φ .slots v));
-      next = rw e (ap (λ (u : Host). u .r 0) (run-append cs to v) ∙ unfold calls-run call-step in refl);
+      slots = rw e (ap (λ (u : Model). u .slots) (run-append cs to v) ∙ unfold calls-run call-step in (φ .slots v));
+      next = rw e (ap (λ (u : Model). u .r 0) (run-append cs to v) ∙ unfold calls-run call-step in refl);
       count = refl;
     }
 
 -- ---- the helper's emitter takes the instruction, or makes no call
 
 abbrev Quiet : Emission → Type 0
-Quiet h = (h .flow ≡ EmitFlow.Terminate) ⊎ (h ≡ JC.none [])
+Quiet h = (h .flow ≡ EmitFlow.Terminate) ⊎ (h ≡ Calls.none [])
 
-load-quiet : (h : JH.Host) (pc w n : ℕ) (d : Decoded32) (o : Option ℕ) → Quiet (TH.with-load h pc w d n o)
+load-quiet : (h : Host) (pc w n : ℕ) (d : Decoded32) (o : Option ℕ) → Quiet (TH.with-load h pc w d n o)
 load-quiet h pc w n d none = inr refl
 load-quiet h pc w n d (some k) = inl refl
 
-store-quiet : (h : JH.Host) (pc w n : ℕ) (d : Decoded32) (o : Option ℕ) → Quiet (TH.with-store h pc w d n o)
+store-quiet : (h : Host) (pc w n : ℕ) (d : Decoded32) (o : Option ℕ) → Quiet (TH.with-store h pc w d n o)
 store-quiet h pc w n d none = inr refl
 store-quiet h pc w n d (some k) = inl refl
 
 quiet-by : (a b c d e f : Bool) (l s k : Emission) → Quiet l → Quiet s → Quiet k
-    → Quiet (cond a (JC.none []) (cond b l (cond c s (cond d k (cond e k (cond f k (JC.none [])))))))
+    → Quiet (cond a (Calls.none []) (cond b l (cond c s (cond d k (cond e k (cond f k (Calls.none [])))))))
 quiet-by true b c d e f l s k p q r = inr refl
 quiet-by false true c d e f l s k p q r = p
 quiet-by false false true d e f l s k p q r = q
@@ -141,19 +141,19 @@ quiet-by false false false false true f l s k p q r = r
 quiet-by false false false false false true l s k p q r = r
 quiet-by false false false false false false l s k p q r = inr refl
 
-quiet32 : (h : JH.Host) (pc w n : ℕ) (d : Decoded32) → Quiet (TH.emit-native-term-helper32 h pc w d n)
+quiet32 : (h : Host) (pc w n : ℕ) (d : Decoded32) → Quiet (TH.emit-native-term-helper32 h pc w d n)
 unfolding TH.emit-native-term-helper32 TH.opcode-helper TH.load-helper TH.store-helper
 quiet32 h pc w n d =
     let o = d .opcode in
     quiet-by (eqb o OPCODE-SYSTEM) (eqb o OPCODE-LOAD) (eqb o OPCODE-STORE) (eqb o OPCODE-LOAD-FP) (eqb o OPCODE-STORE-FP) (eqb o OPCODE-AMO)
-    (TH.with-load h pc w d n (TH.load-op (d .funct3))) (TH.with-store h pc w d n (TH.store-op (d .funct3))) (JC.terminate (TH.call-exec (h .helper32) pc w n))
+    (TH.with-load h pc w d n (TH.load-op (d .funct3))) (TH.with-store h pc w d n (TH.store-op (d .funct3))) (Calls.terminate (TH.call-exec (h .helper32) pc w n))
     (load-quiet h pc w n d (TH.load-op (d .funct3))) (store-quiet h pc w n d (TH.store-op (d .funct3))) (inl refl)
 
-quiet16 : (h : JH.Host) (pc w n : ℕ) → Quiet (TH.emit-native-term-helper16 h pc w n)
+quiet16 : (h : Host) (pc w n : ℕ) → Quiet (TH.emit-native-term-helper16 h pc w n)
 unfolding TH.emit-native-term-helper16
-quiet16 h pc w n = by (TH.supports (JD.c-op w) (JD.c-funct3 w))
+quiet16 h pc w n = by (TH.supports (Rust.c-op w) (Rust.c-funct3 w))
   where
-    by : (b : Bool) → Quiet (cond b (JC.terminate (TH.call-exec (h .helper16) pc w n)) (JC.none []))
+    by : (b : Bool) → Quiet (cond b (Calls.terminate (TH.call-exec (h .helper16) pc w n)) (Calls.none []))
     by true = inl refl
     by false = inr refl
 
@@ -167,22 +167,22 @@ module _ (r₀ : ℕ → ℕ) (start : ℕ) where
   -- the walk and the guest's run from index i on, unless a helper ends it
   abbrev Follows : ℕ → Walk → (Hart → Ran) → Type 0
   Follows i w run =
-      (u : Host) → Kept r₀ true u → getD (u .slots) 0 0 ≡ 0 → by-helper (w .stop) ≡ 0 → Walks w u (run (R.hart (u .slots) (add start i)))
+      (u : Model) → Kept r₀ true u → getD (u .slots) 0 0 ≡ 0 → by-helper (w .stop) ≡ 0 → Walks w u (run (Rv64.hart (u .slots) (add start i)))
 
-  helped-walks : (e h : Emission) (size i n : ℕ) (why : RS.Stop) (v : Host) (rest : ℕ → ℕ → Walk) → Quiet h → Fine (e .calls)
+  helped-walks : (e h : Emission) (size i n : ℕ) (why : RS.Stop) (v : Model) (rest : ℕ → ℕ → Walk) → Quiet h → Fine (e .calls)
       → by-helper (step EmitFlow.None e h size start n i rest .stop) ≡ 0
-      → Walks (step EmitFlow.None e h size start n i rest) v (R.stopped (R.hart (v .slots) (add start i)) n why)
+      → Walks (step EmitFlow.None e h size start n i rest) v (Rv64.stopped (Rv64.hart (v .slots) (add start i)) n why)
   unfolding step helped by-helper next-calls
   helped-walks e h size i n why v rest (inl p) φ free = absurd (omega (arith, rw p at free))
   helped-walks e h size i n why v rest (inr p) φ free =
       rw (p, append-nil (e .calls)) (stop-walks (e .calls) n (add start i) Stop.Uncovered why v refl φ (omega arith))
 
-  step-walks : (f : Flow) (x : List ℕ) (e h : Emission) (size i n : ℕ) (v : Host) (rest : ℕ → ℕ → Walk) (run : Hart → Ran)
+  step-walks : (f : Flow) (x : List ℕ) (e h : Emission) (size i n : ℕ) (v : Model) (rest : ℕ → ℕ → Walk) (run : Hart → Ran)
       → Quiet h → Matches size (add start i) v x f e → Stays f x (v .slots) → getD x 0 0 ≡ 0 → Kept r₀ true v
       → Follows (i + size) (rest (suc n) (i + size)) run
       → by-helper (step (e .flow) e h size start n i rest .stop) ≡ 0
-      → Walks (step (e .flow) e h size start n i rest) v (R.onward f x (add start i) n run)
-  unfolding step R.onward next-calls
+      → Walks (step (e .flow) e h size start n i rest) v (Rv64.onward f x (add start i) n run)
+  unfolding step Rv64.onward next-calls
   step-walks (Flow.Next to) x e h size i n v rest run hq m st z κ go free =
       let cs = e .calls in
       let stay : all-keep true cs ≡ true = is-true (all-keep true cs) (m .stay) in
@@ -196,8 +196,8 @@ module _ (r₀ : ℕ → ℕ) (start : ℕ) where
       (record {
         fit = rw q (fit-append true cs _ (m .does .fit) (rw stay (y .fit)));
         range = rw q (in-append cs _ (m .does .range) (y .range));
-        slots = rw q (ap (λ (u : Host). u .slots) (run-append cs _ v) ∙ y .slots);
-        next = rw q (ap (λ (u : Host). u .r 0) (run-append cs _ v) ∙ y .next);
+        slots = rw q (ap (λ (u : Model). u .slots) (run-append cs _ v) ∙ y .slots);
+        next = rw q (ap (λ (u : Model). u .r 0) (run-append cs _ v) ∙ y .next);
         count = y .count;
       })
   step-walks (Flow.Ended to) x e h size i n v rest run hq m st z κ go free =
@@ -209,25 +209,25 @@ module _ (r₀ : ℕ → ℕ) (start : ℕ) where
   step-walks Flow.Uncovered x e h size i n v rest run hq m st z κ go free =
       rw (m .flow, st) (helped-walks e h size i n RS.Stop.Uncovered v rest hq (m .fine) (rw (m .flow) at free))
 
-  module _ (host : JH.Host) where
+  module _ (host : Host) where
     -- what was fetched: nothing, or an instruction of 16 or of 32 bits
-    instr-walks : (a b c : Bool) (w u : ℕ) → eqb (w % 4) 3 ≡ b → (b ≡ true → eqb (u % 4) 3 ≡ true) → (i n : ℕ) (v : Host) (rest : ℕ → ℕ → Walk) (run : ℕ → Hart → Ran)
+    instr-walks : (a b c : Bool) (w u : ℕ) → eqb (w % 4) 3 ≡ b → (b ≡ true → eqb (u % 4) 3 ≡ true) → (i n : ℕ) (v : Model) (rest : ℕ → ℕ → Walk) (run : ℕ → Hart → Ran)
         → w < 2 ^ 16 → u < 2 ^ 32 → Kept r₀ true v → getD (v .slots) 0 0 ≡ 0 → ((size : ℕ) → size % 2 ≡ 0 → Follows (i + size) (rest (suc n) (i + size)) (run size))
         → by-helper (instr-walk host (cond a (cond b (cond c (some u) none) (some w)) none) start n i rest .stop) ≡ 0
         → Walks (instr-walk host (cond a (cond b (cond c (some u) none) (some w)) none) start n i rest) v
-        (R.step (cond (not a) RF.Fetched.Missing (cond (not b) (RF.Fetched.Found (RC.decode16 (host .«ignore_ebreak») w) 2) (cond (not c) RF.Fetched.Missing (RF.Fetched.Found (RD.decode32 u) 4)))) (R.hart (v .slots) (add start i)) n run)
-    unfolding instr-walk emit-native emit-term-helper R.step next-calls
+        (Rv64.step (cond (not a) RF.Fetched.Missing (cond (not b) (RF.Fetched.Found (C.decode16 (host .«ignore_ebreak») w) 2) (cond (not c) RF.Fetched.Missing (RF.Fetched.Found (D.decode32 u) 4)))) (Rv64.hart (v .slots) (add start i)) n run)
+    unfolding instr-walk emit-native emit-term-helper Rv64.step next-calls
     instr-walks false b c w u qw qu i n v rest run hw hu κ z go free = stop-walks [] n (add start i) Stop.NotFetched RS.Stop.NotFetched v refl nothing (omega arith)
     instr-walks true false c w u qw qu i n v rest run hw hu κ z go free =
-        let j = RC.decode16 (host .«ignore_ebreak») w in
+        let j = C.decode16 (host .«ignore_ebreak») w in
         rw qw
-        (step-walks _ _ (E16.emit-native-instr16 (host .«ignore_ebreak») (add start i) w) _ 2 i n v rest (run 2) (quiet16 host (add start i) w n) (agrees16 r₀ (add start i) v κ z w hw (host .«ignore_ebreak»))
+        (step-walks _ _ (I16.emit-native-instr16 (host .«ignore_ebreak») (add start i) w) _ 2 i n v rest (run 2) (quiet16 host (add start i) w n) (agrees16 r₀ (add start i) v κ z w hw (host .«ignore_ebreak»))
         (exec-stays j 2 (add start i) (v .slots)) (exec-zero j 2 (add start i) (v .slots) ∙ z) κ (go 2 refl) (rw qw at free))
     instr-walks true true false w u qw qu i n v rest run hw hu κ z go free = stop-walks [] n (add start i) Stop.NotFetched RS.Stop.NotFetched v refl nothing (omega arith)
     instr-walks true true true w u qw qu i n v rest run hw hu κ z go free =
-        let j = RD.decode32 u in
+        let j = D.decode32 u in
         rw (qu refl)
-        (step-walks _ _ (E32.emit-native-instr (add start i) u (JD.decode32 u)) _ 4 i n v rest (run 4) (quiet32 host (add start i) u n (JD.decode32 u)) (agrees32 r₀ (add start i) v κ z u hu)
+        (step-walks _ _ (I32.emit-native-instr (add start i) u (Rust.decode32 u)) _ 4 i n v rest (run 4) (quiet32 host (add start i) u n (Rust.decode32 u)) (agrees32 r₀ (add start i) v κ z u hu)
         (exec-stays j 4 (add start i) (v .slots)) (exec-zero j 4 (add start i) (v .slots) ∙ z) κ (go 4 refl) (rw (qu refl) at free))
 
     short : (i k l : ℕ) → 0 < k → ltb (l - i) k ≡ not (leb (i + k) l)
@@ -248,10 +248,10 @@ module _ (r₀ : ℕ → ℕ) (start : ℕ) where
     from-drop k m i = refl
 
     -- the whole walk
-    pub walk-walks : (guest : List ℕ) → Bytes guest → start < 2 ^ 64 → (k n i : ℕ) (v : Host) → add start i % 2 ≡ 0 → Kept r₀ true v → getD (v .slots) 0 0 ≡ 0
+    pub walk-walks : (guest : List ℕ) → Bytes guest → start < 2 ^ 64 → (k n i : ℕ) (v : Model) → add start i % 2 ≡ 0 → Kept r₀ true v → getD (v .slots) 0 0 ≡ 0
         → by-helper (walk host guest start k n i .stop) ≡ 0
-        → Walks (walk host guest start k n i) v (R.run (host .«ignore_ebreak») k n (drop i guest) (R.hart (v .slots) (add start i)))
-    unfolding walk R.run fetch fetch-upper R.fetch next-calls
+        → Walks (walk host guest start k n i) v (Rv64.run (host .«ignore_ebreak») k n (drop i guest) (Rv64.hart (v .slots) (add start i)))
+    unfolding walk Rv64.run fetch fetch-upper Rv64.fetch next-calls
     walk-walks guest hb hs zero n i v he κ z free = stop-walks [] n (add start i) Stop.Limit RS.Stop.Limit v refl nothing (omega arith)
     walk-walks guest hb hs (suc k) n i v he κ z free =
         let p : n + 1 ≡ suc n = omega arith in
@@ -259,6 +259,6 @@ module _ (r₀ : ℕ → ℕ) (start : ℕ) where
         let o : eqb (add start i % 2) 0 ≡ true = eq-eqb (add start i % 2) 0 he in
         rw (o, word-at guest i, from-drop 2 guest i, from-drop 4 guest i, l, short i 2 (length guest) (omega arith), short i 4 (length guest) (omega arith))
         (instr-walks (leb (i + 2) (length guest)) (eqb (load 2 guest i % 4) 3) (leb (i + 4) (length guest)) (load 2 guest i) (load 4 guest i) refl (wide guest i) i n v
-        (walk host guest start k) (λ size. R.run (host .«ignore_ebreak») k (n + 1) (drop size (drop i guest))) (load-lt 2 guest i hb) (load-lt 4 guest i hb) κ z
+        (walk host guest start k) (λ size. Rv64.run (host .«ignore_ebreak») k (n + 1) (drop size (drop i guest))) (load-lt 2 guest i hb) (load-lt 4 guest i hb) κ z
         (λ size e u κ′ z′ f. rw (p, drop-drop size i guest) (walk-walks guest hb hs k (suc n) (i + size) u (omega (arith, he, e)) κ′ z′ f))
         (rw (o, word-at guest i) at free))

@@ -1,4 +1,4 @@
--- The emitter's calls on a host whose registers are a function and whose slots are a list, so that a list of calls
+-- The emitter's calls on a model of the machine, whose registers are a function and whose slots are a list, so that a list of calls
 -- computes; and that their words do the same to the machine. Assumes nothing.
 use mathlib.Core.Path.{_≡_, refl, sym, ap, _∙_}
 use mathlib.Core.Bool.{Bool, true, false, cond, not, xor, _&&_, _||_, true≢false}
@@ -27,26 +27,26 @@ use Rattle.a64_run.proofs.Slots.{Apart, Slots, slot-stored}
 use Rattle.emit_native.specs.Calls.{Call, emit, mov-imm64, load, store, reg-off, rust, call-words, words-in, words}
 use Rattle.translation.proofs.Registers.{upd, tab, length-tab, set-tab, operand-tab}
 
--- ---- the host
+-- ---- the model
 
-pub record Host : Type 0 where
+pub record Model : Type 0 where
   pub r : ℕ → ℕ
   pub f : Flags
   pub slots : List ℕ
 
-abbrev pub host : (ℕ → ℕ) → Flags → List ℕ → Host
-host r f s = record { r = r; f = f; slots = s }
+abbrev pub model : (ℕ → ℕ) → Flags → List ℕ → Model
+model r f s = record { r = r; f = f; slots = s }
 
 -- a register as an operand
-abbrev pub operand : Host → ℕ → ℕ
+abbrev pub operand : Model → ℕ → ℕ
 operand v k = cond (eqb k 31) 0 (v .r k)
 
-abbrev result : Host → ℕ → ℕ → Host
-result v d w = host (upd (v .r) d w) (v .f) (v .slots)
+abbrev result : Model → ℕ → ℕ → Model
+result v d w = model (upd (v .r) d w) (v .f) (v .slots)
 
-unfoldable pub form-step : Form → Host → Host
+unfoldable pub form-step : Form → Model → Model
 form-step (DataProcessing q d n m) v = result v d (op-value q (operand v n) (operand v m))
-form-step (Cmp n m) v = host (v .r) (compared (operand v n) (operand v m)) (v .slots)
+form-step (Cmp n m) v = model (v .r) (compared (operand v n) (operand v m)) (v .slots)
 form-step (Csel d n m c) v = result v d (cond (holds c (v .f)) (operand v n) (operand v m))
 form-step (Sxtw d n) v = result v d (sext 32 (operand v n))
 form-step (Ldr t n i) v = v
@@ -59,14 +59,14 @@ form-step (Blr n) v = v
 form-step Ret v = v
 form-step Unreadable v = v
 
-unfoldable pub call-step : Call → Host → Host
+unfoldable pub call-step : Call → Model → Model
 unfolding form-step
 call-step (emit w) v = form-step (decode w) v
 call-step (mov-imm64 d c) v = result v d c
 call-step (load d n) v = result v d (getD (v .slots) n 0)
-call-step (store d n) v = host (v .r) (v .f) (set (v .slots) n (operand v d))
+call-step (store d n) v = model (v .r) (v .f) (set (v .slots) n (operand v d))
 
-unfoldable pub calls-run : List Call → Host → Host
+unfoldable pub calls-run : List Call → Model → Model
 unfolding call-step
 calls-run [] v = v
 calls-run (c ∷ cs) v = calls-run cs (call-step c v)
@@ -146,7 +146,7 @@ AllIn (c ∷ cs) = In c × AllIn cs
 
 -- ---- what the calls keep of the registers r₀ at entry: X0 while b holds, and all but the scratch registers
 
-pub record Kept (r₀ : ℕ → ℕ) (b : Bool) (v : Host) : Type 0 where
+pub record Kept (r₀ : ℕ → ℕ) (b : Bool) (v : Model) : Type 0 where
   pub base : T b → v .r 0 ≡ r₀ 0
   pub same : (k : ℕ) → scratch k ≡ false → v .r k ≡ r₀ k
   pub count : length (v .slots) ≡ 32
@@ -197,7 +197,7 @@ op-lt Umulh x y hx hy = product-below x y (2 ^ 64) (le-of-lt hx) hy (pow-pos 64)
 op-lt Udiv x y hx hy = div-lt x y hx
 op-lt Sdiv x y hx hy = unfold sdiv signed in (cond-lt (xor (sign x) (sign y)) (omega arith) (div-lt (magnitude x) (magnitude y) (magnitude-lt x hx)))
 
-operand-lt : (v : Host) → ((k : ℕ) → v .r k < 2 ^ 64) → (k : ℕ) → operand v k < 2 ^ 64
+operand-lt : (v : Model) → ((k : ℕ) → v .r k < 2 ^ 64) → (k : ℕ) → operand v k < 2 ^ 64
 operand-lt v h k = cond-lt (eqb k 31) (omega arith) (h k)
 
 scratch-lt : (d : ℕ) → T (scratch d) → d < 31
@@ -212,7 +212,7 @@ scratch-lt d t = by (eqb d 0) (eqb d 1) (leb 9 d) (leb d 17) refl refl refl t
     by false false false e p q r t = absurd t
 
 -- a write to a register
-module _ (r₀ : ℕ → ℕ) (b : Bool) (v : Host) (κ : Kept r₀ b v) (d w : ℕ) (hd : T (scratch d)) (hw : w < 2 ^ 64) where
+module _ (r₀ : ℕ → ℕ) (b : Bool) (v : Model) (κ : Kept r₀ b v) (d w : ℕ) (hd : T (scratch d)) (hw : w < 2 ^ 64) where
   other : (k : ℕ) → scratch k ≡ false → eqb k d ≡ false
   other k h = ne-eqb k d (λ e. true≢false (sym (is-true (scratch d) hd) ∙ ap scratch (sym e) ∙ h))
 
@@ -241,7 +241,7 @@ same-base : (b : Bool) → T (b && true) → T b
 same-base true t = tt
 same-base false t = t
 
-form-kept : (r₀ : ℕ → ℕ) (b : Bool) (f : Form) (v : Host) → T (form-fits f) → Kept r₀ b v → Kept r₀ (b && not (eqb (written f) 0)) (form-step f v)
+form-kept : (r₀ : ℕ → ℕ) (b : Bool) (f : Form) (v : Model) → T (form-fits f) → Kept r₀ b v → Kept r₀ (b && not (eqb (written f) 0)) (form-step f v)
 unfolding form-fits form-step written
 form-kept r₀ b (DataProcessing q d n m) v t κ =
     put-kept r₀ b v κ d _ (and-l (scratch d) _ t) (op-lt q _ _ (operand-lt v (κ .regs) n) (operand-lt v (κ .regs) m))
@@ -260,7 +260,7 @@ form-kept r₀ b (Blr n) v t κ = absurd t
 form-kept r₀ b Ret v t κ = absurd t
 form-kept r₀ b Unreadable v t κ = absurd t
 
-call-kept : (r₀ : ℕ → ℕ) (b : Bool) (c : Call) (v : Host) → T (fits b c) → In c → Kept r₀ b v → Kept r₀ (keeps b c) (call-step c v)
+call-kept : (r₀ : ℕ → ℕ) (b : Bool) (c : Call) (v : Model) → T (fits b c) → In c → Kept r₀ b v → Kept r₀ (keeps b c) (call-step c v)
 unfolding fits keeps call-step
 call-kept r₀ b (emit w) v t h κ = form-kept r₀ b (decode w) v t κ
 call-kept r₀ b (mov-imm64 d c) v t h κ = put-kept r₀ b v κ d c t h
@@ -274,7 +274,7 @@ call-kept r₀ b (store d n) v t h κ =
       regs = κ .regs;
     }
 
-pub calls-kept : (r₀ : ℕ → ℕ) (cs : List Call) (b : Bool) (v : Host) → T (all-fit b cs) → AllIn cs → Kept r₀ b v
+pub calls-kept : (r₀ : ℕ → ℕ) (cs : List Call) (b : Bool) (v : Model) → T (all-fit b cs) → AllIn cs → Kept r₀ b v
     → Kept r₀ (all-keep b cs) (calls-run cs v)
 unfolding all-fit all-keep calls-run
 calls-kept r₀ [] b v t h κ = κ
@@ -283,20 +283,20 @@ calls-kept r₀ (c ∷ cs) b v t h κ =
 
 -- ---- the machine: slot n is at place p n of the memory, which is m₀ outside the slots
 
-abbrev pub real : ℕ → ℕ → Host → List ℕ → State
+abbrev pub real : ℕ → ℕ → Model → List ℕ → State
 real base sp v m = machine (tab 31 (v .r)) sp (v .f) base m
 
 -- from v to u over the words
-abbrev pub Goes : (ℕ → ℕ) → List ℕ → ℕ → ℕ → List ℕ → Host → List ℕ → Host → Type 0
+abbrev pub Goes : (ℕ → ℕ) → List ℕ → ℕ → ℕ → List ℕ → Model → List ℕ → Model → Type 0
 Goes p m₀ base sp ws v m u = (m′ : List ℕ) × Straight ws (real base sp v m) (real base sp u m′) × Slots p m₀ m′ (u .slots)
 
 module _ (p : ℕ → ℕ) (m₀ : List ℕ) (base sp o : ℕ) (r₀ : ℕ → ℕ) (apart : Apart p (length m₀)) (ho : o ≤ max-slot-offset)
     (at : (n : ℕ) → n < 32 → wrap (r₀ 0 + reg-off o n / 8 * 8) ≡ base + p n) (even : (n : ℕ) → n < 32 → (base + p n) % 8 ≡ 0) where
-  slot-address : (v : Host) (m : List ℕ) (n : ℕ) → n < 32 → Kept r₀ true v → address (real base sp v m) 0 (reg-off o n / 8) ≡ base + p n
+  slot-address : (v : Model) (m : List ℕ) (n : ℕ) → n < 32 → Kept r₀ true v → address (real base sp v m) 0 (reg-off o n / 8) ≡ base + p n
   unfolding tab
   slot-address v m n hn κ = let e : v .r 0 ≡ r₀ 0 = κ .base tt in rw e (at n hn)
 
-  slot-reaches : (v : Host) (m : List ℕ) (n : ℕ) → n < 32 → length m ≡ length m₀ → reaches (real base sp v m) 0 (base + p n) ≡ true
+  slot-reaches : (v : Model) (m : List ℕ) (n : ℕ) → n < 32 → length m ≡ length m₀ → reaches (real base sp v m) 0 (base + p n) ≡ true
   unfolding reaches
   slot-reaches v m n hn l =
       let i : p n + 8 ≤ length m₀ = apart .inside n hn in
@@ -308,7 +308,7 @@ module _ (p : ℕ → ℕ) (m₀ : List ℕ) (base sp o : ℕ) (r₀ : ℕ → �
   in-offset : (n : ℕ) → n < 32 → reg-off o n / 8 < 4096
   in-offset n h = omega arith
 
-  form-goes : (f : Form) (v : Host) (m : List ℕ) → T (form-fits f) → exec f (real base sp v m) ≡ next (real base sp (form-step f v) m)
+  form-goes : (f : Form) (v : Model) (m : List ℕ) → T (form-fits f) → exec f (real base sp v m) ≡ next (real base sp (form-step f v) m)
   unfolding form-fits form-step
   form-goes (DataProcessing q d n m) v mem t =
       let hd : d < 31 = scratch-lt d (and-l (scratch d) _ t) in
@@ -338,7 +338,7 @@ module _ (p : ℕ → ℕ) (m₀ : List ℕ) (base sp o : ℕ) (r₀ : ℕ → �
   form-goes Ret v mem t = absurd t
   form-goes Unreadable v mem t = absurd t
 
-  form-slots : (f : Form) (v : Host) → form-step f v .slots ≡ v .slots
+  form-slots : (f : Form) (v : Model) → form-step f v .slots ≡ v .slots
   unfolding form-step
   form-slots (DataProcessing q d n m) v = refl
   form-slots (Cmp n m) v = refl
@@ -354,7 +354,7 @@ module _ (p : ℕ → ℕ) (m₀ : List ℕ) (base sp o : ℕ) (r₀ : ℕ → �
   form-slots Ret v = refl
   form-slots Unreadable v = refl
 
-  call-goes : (b : Bool) (c : Call) (v : Host) (m : List ℕ) → T (fits b c) → In c → Kept r₀ b v → Slots p m₀ m (v .slots)
+  call-goes : (b : Bool) (c : Call) (v : Model) (m : List ℕ) → T (fits b c) → In c → Kept r₀ b v → Slots p m₀ m (v .slots)
       → Goes p m₀ base sp (call-words rust o c) v m (call-step c v)
   unfolding fits call-step
   call-goes b (emit w) v m t h κ s = (m, (real base sp (form-step (decode w) v) m, form-goes (decode w) v m t, refl), rw (form-slots (decode w) v) s)
@@ -379,7 +379,7 @@ module _ (p : ℕ → ℕ) (m₀ : List ℕ) (base sp o : ℕ) (r₀ : ℕ → �
   call-goes false (store d n) v m t h κ s = absurd (and-r (ltb d 32) false t)
 
   -- a list of calls
-  pub calls-go : (cs : List Call) (b : Bool) (v : Host) (m : List ℕ) → T (all-fit b cs) → AllIn cs → Kept r₀ b v → Slots p m₀ m (v .slots)
+  pub calls-go : (cs : List Call) (b : Bool) (v : Model) (m : List ℕ) → T (all-fit b cs) → AllIn cs → Kept r₀ b v → Slots p m₀ m (v .slots)
       → Goes p m₀ base sp (words o cs) v m (calls-run cs v)
   unfolding all-fit calls-run words-in flatten
   calls-go [] b v m t h κ s = (m, refl, s)

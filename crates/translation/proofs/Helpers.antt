@@ -13,9 +13,9 @@ use Rattle.rv64.specs.declared.decode.Instr.{Instr}
 use Rattle.rv64.specs.Decode.{Table, lookup}
 use Rattle.rv64.specs.Decode as D
 use Rattle.rv64.specs.Compressed as C
-use Rattle.emit_native.specs.declared.Host as H
-use Rattle.isa.specs.Decode as J
-use Rattle.emit_native.specs.TermHelper as T
+use Rattle.emit_native.specs.declared.Host.{Host}
+use Rattle.isa.specs.Decode as Rust
+use Rattle.emit_native.specs.TermHelper as TH
 use Rattle.emit_native.specs.declared.EmitFlow.{EmitFlow}
 use Rattle.translation.proofs.Agree32.{digit}
 
@@ -55,20 +55,20 @@ unless n i p = any (eqb n 0) Instr.Uncovered i refl p
 
 -- ---- 32 bits
 
-module _ (h : H.Host) (pc w n : ℕ) where
+module _ (h : Host) (pc w n : ℕ) where
   abbrev Same : Type 0
-  Same = took (T.emit-native-term-helper32 h pc w (J.decode32 w) n .flow) ≡ helps (D.by-class (class-of (w % 128)) w)
+  Same = took (TH.emit-native-term-helper32 h pc w (Rust.decode32 w) n .flow) ≡ helps (D.by-class (class-of (w % 128)) w)
 
-  load-by : (d : Decoded32) (t : ℕ) → t < 8 → funct3 w ≡ t → took (T.load-helper h pc w d n t .flow) ≡ helps (D.below w 7 Instr.Helper)
-  unfolding T.load-helper T.load-op D.below helps
+  load-by : (d : Decoded32) (t : ℕ) → t < 8 → funct3 w ≡ t → took (TH.load-helper h pc w d n t .flow) ≡ helps (D.below w 7 Instr.Helper)
+  unfolding TH.load-helper TH.load-op D.below helps
   load-by d =
-      digit (λ t. funct3 w ≡ t → took (T.load-helper h pc w d n t .flow) ≡ helps (D.below w 7 Instr.Helper))
+      digit (λ t. funct3 w ≡ t → took (TH.load-helper h pc w d n t .flow) ≡ helps (D.below w 7 Instr.Helper))
       (λ e. rw e) (λ e. rw e) (λ e. rw e) (λ e. rw e) (λ e. rw e) (λ e. rw e) (λ e. rw e) (λ e. rw e)
 
-  store-by : (d : Decoded32) (t : ℕ) → t < 8 → funct3 w ≡ t → took (T.store-helper h pc w d n t .flow) ≡ helps (D.below w 4 Instr.Helper)
-  unfolding T.store-helper T.store-op D.below helps
+  store-by : (d : Decoded32) (t : ℕ) → t < 8 → funct3 w ≡ t → took (TH.store-helper h pc w d n t .flow) ≡ helps (D.below w 4 Instr.Helper)
+  unfolding TH.store-helper TH.store-op D.below helps
   store-by d =
-      digit (λ t. funct3 w ≡ t → took (T.store-helper h pc w d n t .flow) ≡ helps (D.below w 4 Instr.Helper))
+      digit (λ t. funct3 w ≡ t → took (TH.store-helper h pc w d n t .flow) ≡ helps (D.below w 4 Instr.Helper))
       (λ e. rw e) (λ e. rw e) (λ e. rw e) (λ e. rw e) (λ e. rw e) (λ e. rw e) (λ e. rw e) (λ e. rw e)
 
   -- the opcode is k, or not
@@ -80,7 +80,7 @@ module _ (h : H.Host) (pc w n : ℕ) where
       by false q = g q
 
   pub helps32 : Same
-  unfolding T.emit-native-term-helper32 T.opcode-helper D.by-class class-of D.op D.op32 D.op-imm D.shift-imm D.op-imm-32 D.shift-imm-32 D.branch D.misc-mem D.fences D.below helps
+  unfolding TH.emit-native-term-helper32 TH.opcode-helper D.by-class class-of D.op D.op32 D.op-imm D.shift-imm D.op-imm-32 D.shift-imm-32 D.branch D.misc-mem D.fences D.below helps
   helps32 =
       is 0x03 (λ e. rw e (load-by _ (funct3 w) (omega arith) refl)) (λ a.
       is 0x23 (λ e. rw e (store-by _ (funct3 w) (omega arith) refl)) (λ b.
@@ -99,12 +99,12 @@ module _ (h : H.Host) (pc w n : ℕ) where
 
 -- ---- 16 bits
 
-module _ (h : H.Host) (pc w n : ℕ) (e : Bool) where
+module _ (h : Host) (pc w n : ℕ) (e : Bool) where
   abbrev Same16 : Type 0
-  Same16 = took (T.emit-native-term-helper16 h pc w n .flow) ≡ helps (C.decode16 e w)
+  Same16 = took (TH.emit-native-term-helper16 h pc w n .flow) ≡ helps (C.decode16 e w)
 
   quadrant0-by : (t : ℕ) → t < 8 → w % 4 ≡ 0 → inst 15 13 w ≡ t → Same16
-  unfolding T.emit-native-term-helper16 T.supports C.decode16 C.quadrants C.quadrant0 C.table0 helps
+  unfolding TH.emit-native-term-helper16 TH.supports C.decode16 C.quadrants C.quadrant0 C.table0 helps
   quadrant0-by =
       digit (λ t. w % 4 ≡ 0 → inst 15 13 w ≡ t → Same16)
       (λ q e. rw (q, e) (unless (ciw-imm w) _ refl)) (λ q e. rw (q, e)) (λ q e. rw (q, e)) (λ q e. rw (q, e))
@@ -122,7 +122,7 @@ module _ (h : H.Host) (pc w n : ℕ) (e : Bool) where
       (λ e. rw e) (λ e. rw e) (λ e. rw e) (λ e. rw e)
 
   quadrant1-by : (t : ℕ) → t < 8 → w % 4 ≡ 1 → inst 15 13 w ≡ t → Same16
-  unfolding T.emit-native-term-helper16 T.supports C.decode16 C.quadrants C.quadrant1 C.table1 helps
+  unfolding TH.emit-native-term-helper16 TH.supports C.decode16 C.quadrants C.quadrant1 C.table1 helps
   quadrant1-by =
       digit (λ t. w % 4 ≡ 1 → inst 15 13 w ≡ t → Same16)
       (λ q e. rw (q, e)) (λ q e. rw (q, e) (unless (rd w) _ refl)) (λ q e. rw (q, e)) (λ q e. rw (q, e) lui-no)
@@ -141,14 +141,14 @@ module _ (h : H.Host) (pc w n : ℕ) (e : Bool) where
   cr-no = any (eqb (inst 12 12 w) 0) _ _ jr-no (any (eqb (inst 12 12 w) 1) _ _ ebreak-no refl)
 
   quadrant2-by : (t : ℕ) → t < 8 → w % 4 ≡ 2 → inst 15 13 w ≡ t → Same16
-  unfolding T.emit-native-term-helper16 T.supports C.decode16 C.quadrants C.quadrant2 C.table2 helps
+  unfolding TH.emit-native-term-helper16 TH.supports C.decode16 C.quadrants C.quadrant2 C.table2 helps
   quadrant2-by =
       digit (λ t. w % 4 ≡ 2 → inst 15 13 w ≡ t → Same16)
       (λ q e. rw (q, e) (unless (rd w) _ refl)) (λ q e. rw (q, e)) (λ q e. rw (q, e)) (λ q e. rw (q, e))
       (λ q e. rw (q, e) cr-no) (λ q e. rw (q, e)) (λ q e. rw (q, e)) (λ q e. rw (q, e))
 
   by-quadrant : (q : ℕ) → q < 4 → w < 2 ^ 16 → w % 4 ≡ q → Same16
-  unfolding T.emit-native-term-helper16 T.supports C.decode16 C.quadrants helps
+  unfolding TH.emit-native-term-helper16 TH.supports C.decode16 C.quadrants helps
   by-quadrant zero l hw q = quadrant0-by (inst 15 13 w) (omega arith) q refl
   by-quadrant (suc zero) l hw q = quadrant1-by (inst 15 13 w) (omega arith) q refl
   by-quadrant (suc (suc zero)) l hw q = quadrant2-by (inst 15 13 w) (omega arith) q refl

@@ -22,12 +22,12 @@ use Rattle.emit_native.specs.declared.EmitFlow.{EmitFlow}
 use Rattle.emit_native.specs.Hart.{C-EQ, C-NE, C-CS, C-CC, C-GE, C-LT, not-1}
 use Rattle.a64.specs.Writers.{add-x, and-x, cmp-x, csel-x}
 use Rattle.emit_native.specs.Calls.{Call, emit, mov-imm64, load, store, if-not-0, Emission, continue, terminate, none, calls-first, store-rd, then-store-rd}
-use Rattle.translation.proofs.Calls.{Host, form-step, call-step, calls-run, scratch, form-fits, written, fits, keeps, all-fit, all-keep, AllIn, Kept, and-l, and-r}
+use Rattle.translation.proofs.Calls.{Model, form-step, call-step, calls-run, scratch, form-fits, written, fits, keeps, all-fit, all-keep, AllIn, Kept, and-l, and-r}
 use Rattle.translation.proofs.Alus.{body, slliw, srliw, sraiw, Computes, body-law, not-not, not-leb}
 
 -- ---- lists of calls, one after the other
 
-pub run-append : (cs ds : List Call) (v : Host) → calls-run (cs ++ ds) v ≡ calls-run ds (calls-run cs v)
+pub run-append : (cs ds : List Call) (v : Model) → calls-run (cs ++ ds) v ≡ calls-run ds (calls-run cs v)
 unfolding calls-run
 run-append [] ds v = refl
 run-append (c ∷ cs) ds v = run-append cs ds (call-step c v)
@@ -56,10 +56,10 @@ pub record Fine (cs : List Call) : Type 0 where
   pub fit : T (all-fit true cs)
   pub stay : all-keep true cs ≡ true
   pub range : AllIn cs
-  pub slots : (v : Host) → calls-run cs v .slots ≡ v .slots
+  pub slots : (v : Model) → calls-run cs v .slots ≡ v .slots
 
 -- calls that leave the registers rs in the slots
-pub record Does (cs : List Call) (v : Host) (rs : List ℕ) : Type 0 where
+pub record Does (cs : List Call) (v : Model) (rs : List ℕ) : Type 0 where
   pub fit : T (all-fit true cs)
   pub range : AllIn cs
   pub slots : calls-run cs v .slots ≡ rs
@@ -67,14 +67,14 @@ pub record Does (cs : List Call) (v : Host) (rs : List ℕ) : Type 0 where
 -- ---- agreement of an instruction with an emission
 
 -- goes on to the next instruction
-pub record Continues (n pc : ℕ) (v : Host) (x : List ℕ) (to : ℕ) (e : Emission) : Type 0 where
+pub record Continues (n pc : ℕ) (v : Model) (x : List ℕ) (to : ℕ) (e : Emission) : Type 0 where
   pub flow : e .flow ≡ EmitFlow.Continue
   pub does : Does (e .calls) v x
   pub stay : T (all-keep true (e .calls))
   pub next : to ≡ add pc n
 
 -- ends the block, with the next PC in X0
-pub record Terminates (v : Host) (x : List ℕ) (to : ℕ) (e : Emission) : Type 0 where
+pub record Terminates (v : Model) (x : List ℕ) (to : ℕ) (e : Emission) : Type 0 where
   pub flow : e .flow ≡ EmitFlow.Terminate
   pub does : Does (e .calls) v x
   pub next : calls-run (e .calls) v .r 0 ≡ to
@@ -84,14 +84,14 @@ pub record Leaves (e : Emission) : Type 0 where
   pub flow : e .flow ≡ EmitFlow.None
   pub fine : Fine (e .calls)
 
-abbrev pub Matches : ℕ → ℕ → Host → List ℕ → Flow → Emission → Type 0
+abbrev pub Matches : ℕ → ℕ → Model → List ℕ → Flow → Emission → Type 0
 Matches n pc v x (Flow.Next to) e = Continues n pc v x to e
 Matches n pc v x (Flow.Ended to) e = Terminates v x to e
 Matches n pc v x Flow.Helper e = Leaves e
 Matches n pc v x Flow.Uncovered e = Leaves e
 
 -- the instruction i of n bytes at pc
-abbrev pub Agrees : ℕ → ℕ → Host → Instr → Emission → Type 0
+abbrev pub Agrees : ℕ → ℕ → Model → Instr → Emission → Type 0
 Agrees n pc v i e = Matches n pc v (exec i n pc (v .slots) .x) (exec i n pc (v .slots) .flow) e
 
 -- ---- the parts
@@ -156,26 +156,26 @@ unfolding sraiw all-fit fits form-fits keeps written all-keep scratch calls-run 
 sraiw-fine = record { fit = tt; stay = refl; range = omega arith; slots = λ v. refl }
 
 -- calls after fine ones
-pub calls-first-does : (cs ds : List Call) (v : Host) (rs : List ℕ) → Fine cs → Does ds (calls-run cs v) rs → Does (cs ++ ds) v rs
+pub calls-first-does : (cs ds : List Call) (v : Model) (rs : List ℕ) → Fine cs → Does ds (calls-run cs v) rs → Does (cs ++ ds) v rs
 calls-first-does cs ds v rs φ d =
     record {
       fit = fit-append true cs ds (φ .fit) (rw (φ .stay) (d .fit));
       range = in-append cs ds (φ .range) (d .range);
-      slots = ap (λ (u : Host). u .slots) (run-append cs ds v) ∙ d .slots;
+      slots = ap (λ (u : Model). u .slots) (run-append cs ds v) ∙ d .slots;
     }
 
 calls-first-stays : (cs ds : List Call) → Fine cs → T (all-keep true ds) → T (all-keep true (cs ++ ds))
 calls-first-stays cs ds φ t = rw (keep-append true cs ds, φ .stay) t
 
 -- X11 into the slot of a register that is not 0
-keep-does : (c : Bool) (d : ℕ) (v : Host) → d < 32
+keep-does : (c : Bool) (d : ℕ) (v : Model) → d < 32
     → Does (cond c [] (store 11 d ∷ [])) v (cond c (v .slots) (set (v .slots) d (v .r 11))) × T (all-keep true (cond c [] (store 11 d ∷ [])))
 unfolding all-fit all-keep fits keeps calls-run call-step
 keep-does true d v h = (record { fit = tt; range = tt; slots = refl }, tt)
 keep-does false d v h = (record { fit = tt; range = (h, tt); slots = refl }, tt)
 
 -- a constant into the slot of a register that is not 0
-put-does : (c : Bool) (d x : ℕ) (v : Host) → d < 32 → x < 2 ^ 64
+put-does : (c : Bool) (d x : ℕ) (v : Model) → d < 32 → x < 2 ^ 64
     → Does (cond c [] (mov-imm64 11 x ∷ store 11 d ∷ [])) v (cond c (v .slots) (set (v .slots) d x))
     × T (all-keep true (cond c [] (mov-imm64 11 x ∷ store 11 d ∷ [])))
 unfolding all-fit all-keep fits keeps scratch calls-run call-step
@@ -192,7 +192,7 @@ read-slot rs z n = by (eqb n 0) refl
     by false q = refl
 
 -- fine calls that leave w in X11, and the store after them, where the slots are rs
-kept-does : (cs : List Call) (d w : ℕ) (v : Host) (rs : List ℕ) → Fine cs → d < 32 → calls-run cs v .r 11 ≡ w → v .slots ≡ rs
+kept-does : (cs : List Call) (d w : ℕ) (v : Model) (rs : List ℕ) → Fine cs → d < 32 → calls-run cs v .r 11 ≡ w → v .slots ≡ rs
     → Does (cs ++ if-not-0 d (store 11 d ∷ [])) v (write rs d w) × T (all-keep true (cs ++ if-not-0 d (store 11 d ∷ [])))
 unfolding write
 kept-does cs d w v rs φ hd e q =
@@ -223,7 +223,7 @@ holds-law Cond.Geu x y hx hy = c-law x y hx hy ∙ sym (not-not (leb y x)) ∙ a
 abbrev pub fork : ℕ → ℕ → ℕ → List Call
 fork k there here = emit (cmp-x 9 10) ∷ mov-imm64 12 there ∷ mov-imm64 13 here ∷ emit (csel-x 0 12 13 k) ∷ []
 
-pub fork-does : (k : Cond) (there here : ℕ) (v : Host) → there < 2 ^ 64 → here < 2 ^ 64 → Does (fork (condition k) there here) v (v .slots)
+pub fork-does : (k : Cond) (there here : ℕ) (v : Model) → there < 2 ^ 64 → here < 2 ^ 64 → Does (fork (condition k) there here) v (v .slots)
 unfolding condition all-fit fits form-fits keeps written scratch calls-run call-step form-step decode
 fork-does Cond.Eq there here v h l = record { fit = tt; range = omega arith; slots = refl }
 fork-does Cond.Ne there here v h l = record { fit = tt; range = omega arith; slots = refl }
@@ -232,7 +232,7 @@ fork-does Cond.Ge there here v h l = record { fit = tt; range = omega arith; slo
 fork-does Cond.Ltu there here v h l = record { fit = tt; range = omega arith; slots = refl }
 fork-does Cond.Geu there here v h l = record { fit = tt; range = omega arith; slots = refl }
 
-fork-is : (k : Cond) (there here : ℕ) (v : Host)
+fork-is : (k : Cond) (there here : ℕ) (v : Model)
     → calls-run (fork (condition k) there here) v .r 0 ≡ cond (holds (condition k) (compared (v .r 9) (v .r 10))) there here
 unfolding condition calls-run call-step form-step decode
 fork-is Cond.Eq there here v = refl
@@ -242,7 +242,7 @@ fork-is Cond.Ge there here v = refl
 fork-is Cond.Ltu there here v = refl
 fork-is Cond.Geu there here v = refl
 
-pub fork-next : (k : Cond) (there here : ℕ) (v : Host) → v .r 9 < 2 ^ 64 → v .r 10 < 2 ^ 64
+pub fork-next : (k : Cond) (there here : ℕ) (v : Model) → v .r 9 < 2 ^ 64 → v .r 10 < 2 ^ 64
     → calls-run (fork (condition k) there here) v .r 0 ≡ cond (taken k (v .r 9) (v .r 10)) there here
 fork-next k there here v hx hy = fork-is k there here v ∙ ap (λ (b : Bool). cond b there here) (holds-law k (v .r 9) (v .r 10) hx hy)
 
@@ -250,9 +250,9 @@ fork-next k there here v hx hy = fork-is k there here v ∙ ap (λ (b : Bool). c
 pub even : (x : ℕ) → x < 2 ^ 64 → bitAnd x (2 ^ 64 - 2) ≡ x / 2 * 2
 even x h = and-high x 63 1 ∙ omega arith
 
--- ---- the instructions, from a host v in which X0 is the base of the slots and slot 0 is 0
+-- ---- the instructions, from a model v in which X0 is the base of the slots and slot 0 is 0
 
-module _ (r₀ : ℕ → ℕ) (n pc : ℕ) (v : Host) (κ : Kept r₀ true v) (z : getD (v .slots) 0 0 ≡ 0) where
+module _ (r₀ : ℕ → ℕ) (n pc : ℕ) (v : Model) (κ : Kept r₀ true v) (z : getD (v .slots) 0 0 ≡ 0) where
   -- fine calls after fine ones that leave the result in X11
   result-agrees : (pre cs : List Call) (i : Instr) (d w : ℕ) → Fine pre → Fine cs → d < 32 → calls-run cs (calls-run pre v) .r 11 ≡ w
       → exec i n pc (v .slots) ≡ record { x = write (v .slots) d w; flow = Flow.Next (add pc n) }
@@ -278,7 +278,7 @@ module _ (r₀ : ℕ → ℕ) (n pc : ℕ) (v : Host) (κ : Kept r₀ true v) (z
       (unfold exec in refl)
 
   -- with a constant for the second operand
-  pub imm-agrees : (cs : List Call) (k : Alu) (d a c : ℕ) → Fine cs → ((u : Host) → u .r 9 < 2 ^ 64 → u .r 10 ≡ c → Computes cs k u)
+  pub imm-agrees : (cs : List Call) (k : Alu) (d a c : ℕ) → Fine cs → ((u : Model) → u .r 9 < 2 ^ 64 → u .r 10 ≡ c → Computes cs k u)
       → d < 32 → a < 32 → c < 2 ^ 64
       → Agrees n pc v (Instr.OpImm k d a c) (calls-first (load 9 a ∷ mov-imm64 10 c ∷ []) (then-store-rd d (continue cs)))
   imm-agrees cs k d a c φ l hd ha hc =

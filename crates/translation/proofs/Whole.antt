@@ -18,11 +18,11 @@ use Rattle.a64.specs.Forms.{decode}
 use Rattle.a64.specs.Emitter.{bytes}
 use Rattle.a64_run.specs.declared.run.End.{End}
 use Rattle.a64_run.specs.Exec.{State, reg, machine, exec}
-use Rattle.a64_run.specs.Run as A
+use Rattle.a64_run.specs.Run as A64
 use Rattle.a64_run.proofs.Straight.{Straight, straight-run, straight-lt}
 use Rattle.a64_run.proofs.Slots.{Apart}
-use Rattle.rv64.specs.Run as R
-use Rattle.emit_native.specs.declared.Host as JH
+use Rattle.rv64.specs.Run as Rv64
+use Rattle.emit_native.specs.declared.Host.{Host}
 use Rattle.jit_arm64.specs.declared.block.Stop.{Stop}
 use Rattle.a64.specs.Writers.{ret}
 use Rattle.emit_native.specs.Calls.{Call, emit, mov-imm64, words-in, words, reg-off, Emission}
@@ -33,13 +33,13 @@ use Rattle.jit_arm64.specs.Translate.{by-helper}
 use Rattle.jit_arm64.proofs.Emitting.{words-append}
 use Rattle.translation.specs.Demand3.{slot, place, Entry, Ends, Demand3}
 use Rattle.translation.proofs.Registers.{tab, tab-getD, getD-tab}
-use Rattle.translation.proofs.Calls.{Host, host, call-step, calls-run, scratch, fits, all-fit, all-keep, AllIn, Kept, calls-kept, real, Goes, calls-go}
+use Rattle.translation.proofs.Calls.{Model, model, call-step, calls-run, scratch, fits, all-fit, all-keep, AllIn, Kept, calls-kept, real, Goes, calls-go}
 use Rattle.translation.proofs.Instrs.{run-append, fit-append, in-append}
 use Rattle.translation.proofs.Blocks.{next-calls, walk-calls, Walks, walk-walks}
 
 -- ---- words and bytes
 
-pub words-bytes : (ws : List ℕ) → Fit 4 ws → A.words (bytes ws) ≡ ws
+pub words-bytes : (ws : List ℕ) → Fit 4 ws → A64.words (bytes ws) ≡ ws
 words-bytes ws h = let e : length (bytes ws) / 4 ≡ length ws = omega (arith, length-all-bytes 4 ws) in rw e (numbers-bytes 4 ws h)
 
 straight-words : (ws vs : List ℕ) (s t : State) → Straight ws s t → Fit 4 vs → Fit 4 (ws ++ vs)
@@ -85,12 +85,12 @@ step-most EmitFlow.Continue e helper m start n i k rest h = omega (arith, h (i +
 step-most EmitFlow.Terminate e helper m start n i k rest h = omega arith
 step-most EmitFlow.None e helper m start n i k rest h = omega (arith, helped-most (helper .flow) (e .calls ++ helper .calls) n (add start i))
 
-instr-most : (h : JH.Host) (f : Option ℕ) (start n i k : ℕ) (rest : ℕ → ℕ → Walk) → ((j : ℕ) → rest (suc n) j .count ≤ suc n + k) → instr-walk h f start n i rest .count ≤ n + suc k
+instr-most : (h : Host) (f : Option ℕ) (start n i k : ℕ) (rest : ℕ → ℕ → Walk) → ((j : ℕ) → rest (suc n) j .count ≤ suc n + k) → instr-walk h f start n i rest .count ≤ n + suc k
 unfolding instr-walk
 instr-most h none start n i k rest l = omega arith
 instr-most h (some instr) start n i k rest l = step-most _ _ _ (size-of instr) start n i k rest l
 
-walk-most : (h : JH.Host) (guest : List ℕ) (start k n i : ℕ) → walk h guest start k n i .count ≤ n + k
+walk-most : (h : Host) (guest : List ℕ) (start k n i : ℕ) → walk h guest start k n i .count ≤ n + k
 unfolding walk
 walk-most h guest start zero n i = omega arith
 walk-most h guest start (suc k) n i = instr-most h _ start n i k (walk h guest start k) (λ j. walk-most h guest start k (suc n) j)
@@ -117,7 +117,7 @@ slots-differ r o n k hn hk e =
 beyond : (a b base : ℕ) → a % 8 ≡ 0 → b % 8 ≡ 0 → (a ≡ b → ⊥) → a < b + 8 → base ≤ a → base ≤ b → a - base + 8 ≤ b - base
 beyond a b base ha hb ne l p q = omega arith
 
-module _ (h : JH.Host) (pc limit : ℕ) (guest : List ℕ) (hb : Bytes guest) (hp : pc < 2 ^ 64) (he : pc % 2 ≡ 0)
+module _ (h : Host) (pc limit : ℕ) (guest : List ℕ) (hb : Bytes guest) (hp : pc < 2 ^ 64) (he : pc % 2 ≡ 0)
     (ho : h .«slot_offset» ≤ max-slot-offset) (h8 : h .«slot_offset» % 8 ≡ 0) (free : by-helper (whole-walk max-instrs h guest pc limit .stop) ≡ 0) where
   abbrev W : Walk
   W = whole-walk max-instrs h guest pc limit
@@ -145,8 +145,8 @@ module _ (h : JH.Host) (pc limit : ℕ) (guest : List ℕ) (hb : Bytes guest) (h
     abbrev r₀ : ℕ → ℕ
     r₀ k = getD (s .x) k 0
 
-    abbrev v : Host
-    v = host r₀ (s .flags) x
+    abbrev v : Model
+    v = model r₀ (s .flags) x
 
     small : (i : ℕ) (c : Bool) → ltb i 32 ≡ c → getD x i 0 < 2 ^ 64
     small i true q = rw (ε .starts i (ltb-true i 32 q)) (load-lt 8 (s .mem) (p i) (ε .bytes))
@@ -155,7 +155,7 @@ module _ (h : JH.Host) (pc limit : ℕ) (guest : List ℕ) (hb : Bytes guest) (h
     kept : Kept r₀ true v
     kept = record { base = λ t. refl; same = λ k q. refl; count = ε .guest; small = λ i. small i (ltb i 32) refl; regs = ε .small }
 
-    does : Walks W v (R.run (h .«ignore_ebreak») (R.clamped limit) 0 guest (R.hart x pc))
+    does : Walks W v (Rv64.run (h .«ignore_ebreak») (Rv64.clamped limit) 0 guest (Rv64.hart x pc))
     unfolding whole-walk
     does =
         let e : add pc 0 ≡ pc = omega arith in
@@ -171,8 +171,8 @@ module _ (h : JH.Host) (pc limit : ℕ) (guest : List ℕ) (hb : Bytes guest) (h
     range : AllIn (counted W)
     range = in-append (walk-calls W) (mov-imm64 1 (W .count) ∷ []) (does .range) (few, tt)
 
-    -- the host at the end
-    abbrev u : Host
+    -- the model at the end
+    abbrev u : Model
     u = calls-run (counted W) v
 
     last : u ≡ call-step (mov-imm64 1 (W .count)) (calls-run (walk-calls W) v)
@@ -205,8 +205,8 @@ module _ (h : JH.Host) (pc limit : ℕ) (guest : List ℕ) (hb : Bytes guest) (h
     straight = subst (λ (z : State). Straight ws z t) entry (goes .1)
 
     returns : (address budget : ℕ) → length ws < budget
-        → A.run (ws ++ (ret ∷ [])) address budget 0 s ≡ A.ran End.Returned (suc (length ws)) t
-    unfolding A.run A.onward exec decode
+        → A64.run (ws ++ (ret ∷ [])) address budget 0 s ≡ A64.ran End.Returned (suc (length ws)) t
+    unfolding A64.run A64.onward exec decode
     returns address budget hl =
         let e : budget ≡ length ws + suc (budget - suc (length ws)) = omega arith in
         let z : length ws + 0 ≡ length ws = omega arith in
@@ -221,15 +221,15 @@ module _ (h : JH.Host) (pc limit : ℕ) (guest : List ℕ) (hb : Bytes guest) (h
     same : (k : ℕ) → k < 31 → scratch k ≡ false → reg t k ≡ reg s k
     same k hk q = getD-tab 31 (u .r) k hk ∙ at-end .same k q
 
-    ends : Ends (h .«slot_offset») s (suc (length ws)) (W .count) (A.ran End.Returned (suc (length ws)) t) (R.run (h .«ignore_ebreak») (R.clamped limit) 0 guest (R.hart x pc))
+    ends : Ends (h .«slot_offset») s (suc (length ws)) (W .count) (A64.ran End.Returned (suc (length ws)) t) (Rv64.run (h .«ignore_ebreak») (Rv64.clamped limit) 0 guest (Rv64.hart x pc))
     ends =
         record {
           end = refl;
           steps = refl;
           instructions = sym (does .count);
-          x0 = getD-tab 31 (u .r) 0 (omega arith) ∙ ap (λ (z : Host). z .r 0) last ∙ unfold call-step in (does .next);
-          x1 = getD-tab 31 (u .r) 1 (omega arith) ∙ ap (λ (z : Host). z .r 1) last ∙ unfold call-step in refl;
-          slots = λ n hn. goes .2 .holds n hn ∙ ap (λ (z : Host). getD (z .slots) n 0) last ∙ unfold call-step in (ap (λ (l : List ℕ). getD l n 0) (does .slots));
+          x0 = getD-tab 31 (u .r) 0 (omega arith) ∙ ap (λ (z : Model). z .r 0) last ∙ unfold call-step in (does .next);
+          x1 = getD-tab 31 (u .r) 1 (omega arith) ∙ ap (λ (z : Model). z .r 1) last ∙ unfold call-step in refl;
+          slots = λ n hn. goes .2 .holds n hn ∙ ap (λ (z : Model). getD (z .slots) n 0) last ∙ unfold call-step in (ap (λ (l : List ℕ). getD l n 0) (does .slots));
           size = goes .2 .size;
           memory = λ j o. goes .2 .outside j o;
           base = refl;
@@ -242,8 +242,8 @@ module _ (h : JH.Host) (pc limit : ℕ) (guest : List ℕ) (hb : Bytes guest) (h
   pub demand3 : Demand3 guest pc limit (h .«ignore_ebreak») (h .«slot_offset») (block-of h W .code) (W .count)
   demand3 address budget s x ε hl =
       let q : words (h .«slot_offset») (block-calls W) ≡ ws ++ (ret ∷ []) = block-words (h .«slot_offset») W free in
-      let w : A.words (bytes (words (h .«slot_offset») (block-calls W))) ≡ ws ++ (ret ∷ []) =
-      ap (λ (l : List ℕ). A.words (bytes l)) q ∙ words-bytes (ws ++ (ret ∷ [])) (all-words s x ε)
+      let w : A64.words (bytes (words (h .«slot_offset») (block-calls W))) ≡ ws ++ (ret ∷ []) =
+      ap (λ (l : List ℕ). A64.words (bytes l)) q ∙ words-bytes (ws ++ (ret ∷ [])) (all-words s x ε)
       in
       let n : length (ws ++ (ret ∷ [])) ≡ suc (length ws) =
       length-append ws (ret ∷ []) ∙ omega arith

@@ -9,9 +9,9 @@ use Rattle.word.specs.Word.{wrap}
 use Rattle.le.specs.Le.{Bytes, load}
 use Rattle.a64_run.specs.declared.run.End.{End}
 use Rattle.a64_run.specs.Exec.{State, reg}
-use Rattle.a64_run.specs.Run as A
+use Rattle.a64_run.specs.Run as A64
 use Rattle.rv64.specs.declared.run.Ran as RV
-use Rattle.rv64.specs.Run as R
+use Rattle.rv64.specs.Run as Rv64
 
 -- slot n: the eight bytes at slot offset plus 8 n plus the X0 of entry, modulo 2 ^ 64
 abbrev pub slot : State → ℕ → ℕ → ℕ
@@ -42,7 +42,7 @@ abbrev pub Outside : State → ℕ → ℕ → Type 0
 Outside s offset j = (n : ℕ) → n < 32 → (j < place s offset n) ⊎ (place s offset n + 8 ≤ j)
 
 -- the run r of a block of so many words from s on, beside the guest's run g; count: what translation answered
-pub record Ends (offset : ℕ) (s : State) (words count : ℕ) (r : A.Ran) (g : RV.Ran) : Type 0 where
+pub record Ends (offset : ℕ) (s : State) (words count : ℕ) (r : A64.Ran) (g : RV.Ran) : Type 0 where
   -- to its return, in exactly as many steps as there are words
   pub end : r .end ≡ End.Returned
   pub steps : r .steps ≡ words
@@ -64,6 +64,6 @@ pub record Ends (offset : ℕ) (s : State) (words count : ℕ) (r : A.Ran) (g : 
 -- the RV64 definition from the same PC, limit and flag
 abbrev pub Demand3 : List ℕ → ℕ → ℕ → Bool → ℕ → List ℕ → ℕ → Type 0
 Demand3 guest pc limit e offset block count =
-    (address budget : ℕ) (s : State) (x : List ℕ) → Entry offset s x → length (A.words block) ≤ budget
-    → Ends offset s (length (A.words block)) count (A.run (A.words block) address budget 0 s)
-    (R.run e (R.clamped limit) 0 guest (R.hart x pc))
+    (address budget : ℕ) (s : State) (x : List ℕ) → Entry offset s x → length (A64.words block) ≤ budget
+    → Ends offset s (length (A64.words block)) count (A64.run (A64.words block) address budget 0 s)
+    (Rv64.run e (Rv64.clamped limit) 0 guest (Rv64.hart x pc))

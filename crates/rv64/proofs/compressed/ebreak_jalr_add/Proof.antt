@@ -1,6 +1,6 @@
 use native.Mathlib.Omega.{arith}
 use mathlib.Core.Path.{refl}
-use Rattle.rv64.proofs.Steps as T
+use Rattle.rv64.proofs.Steps as Steps
 use Rattle.rv64.specs.Parts as S
 use Rattle.rv64.specs.Execute as X
 use Rattle.rv64.specs.Compressed as C
@@ -12,7 +12,7 @@ use Rattle.rv64.proofs.compressed.ebreak_jalr_add.Tie as tie
 
 returns : tie.Need-returns
 unfolding C.ebreak-jalr-add S.applied X.exec N.value
-returns c = rw (c .unless .ensures, c .before .wrapping-add-u64 .ensures, c .before .before .read2 .ensures, ne-eqb _ _ (c .before .before .before .if1 .taken), c .before .before .before .before .read .ensures) (T.unless (c .before .before .before .before .before .args .w) (c .before .before .before .before .before .args .pc) (c .before .before .before .before .before .args .x .now) _ _ _ (omega arith, refl))
+returns c = rw (c .unless .ensures, c .before .wrapping-add-u64 .ensures, c .before .before .read2 .ensures, ne-eqb _ _ (c .before .before .before .if1 .taken), c .before .before .before .before .read .ensures) (Steps.unless (c .before .before .before .before .before .args .w) (c .before .before .before .before .before .args .pc) (c .before .before .before .before .before .args .x .now) _ _ _ (omega arith, refl))
 
 returns-2 : tie.Need-returns-2
 unfolding C.ebreak-jalr-add S.applied X.exec N.value

@@ -1,5 +1,5 @@
 use native.Mathlib.Omega.{arith}
-use Rattle.rv64.proofs.Steps as T
+use Rattle.rv64.proofs.Steps as Steps
 use Rattle.rv64.specs.Parts as S
 use Rattle.rv64.specs.Execute as X
 use Rattle.rv64.specs.Compressed as C
@@ -11,11 +11,11 @@ use Rattle.rv64.proofs.compressed.jr_mv.Tie as tie
 
 returns : tie.Need-returns
 unfolding C.jr-mv S.applied X.exec N.value
-returns c = rw (c .unless .ensures, c .before .wrapping-add-u64 .ensures, c .before .before .read .ensures, eq-eqb _ _ (c .before .before .before .if1 .taken)) (T.unless (c .before .before .before .before .args .w) (c .before .before .before .before .args .pc) (c .before .before .before .before .args .x .now) _ _ _ (omega arith, rw T.write-zero))
+returns c = rw (c .unless .ensures, c .before .wrapping-add-u64 .ensures, c .before .before .read .ensures, eq-eqb _ _ (c .before .before .before .if1 .taken)) (Steps.unless (c .before .before .before .before .args .w) (c .before .before .before .before .args .pc) (c .before .before .before .before .args .x .now) _ _ _ (omega arith, rw Steps.write-zero))
 
 returns-2 : tie.Need-returns-2
 unfolding C.jr-mv S.applied X.exec N.value
-returns-2 c = rw (c .unless2 .ensures, c .before .wrapping-add-u642 .ensures, c .before .before .read2 .ensures, ne-eqb _ _ (c .before .before .before .if1 .left)) (T.unless (c .before .before .before .before .args .w) (c .before .before .before .before .args .pc) (c .before .before .before .before .args .x .now) _ _ _ (omega arith, rw T.read-zero))
+returns-2 c = rw (c .unless2 .ensures, c .before .wrapping-add-u642 .ensures, c .before .before .read2 .ensures, ne-eqb _ _ (c .before .before .before .if1 .left)) (Steps.unless (c .before .before .before .before .args .w) (c .before .before .before .before .args .pc) (c .before .before .before .before .args .x .now) _ _ _ (omega arith, rw Steps.read-zero))
 
 pub jr-mv-spec : {M : Type 1} → statement M
 jr-mv-spec =

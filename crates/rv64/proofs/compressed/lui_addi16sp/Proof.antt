@@ -1,6 +1,6 @@
 use native.Mathlib.Omega.{arith}
 use mathlib.Core.Path.{refl}
-use Rattle.rv64.proofs.Steps as T
+use Rattle.rv64.proofs.Steps as Steps
 use Rattle.rv64.specs.Alu as N
 use Rattle.rv64.specs.Parts as S
 use Rattle.rv64.specs.Execute as X
@@ -12,11 +12,11 @@ use Rattle.rv64.proofs.compressed.lui_addi16sp.Tie as tie
 
 returns : tie.Need-returns
 unfolding C.lui-addi16sp S.applied X.exec N.value
-returns c = rw (c .unless .ensures, c .before .wrapping-add-u64 .ensures, c .before .before .read .ensures, c .before .before .before .imm-ci16 .ensures, eq-eqb _ _ (c .before .before .before .before .if1 .taken)) (T.unless (c .before .before .before .before .before .args .w) (c .before .before .before .before .before .args .pc) (c .before .before .before .before .before .args .x .now) _ _ _ (omega arith, refl))
+returns c = rw (c .unless .ensures, c .before .wrapping-add-u64 .ensures, c .before .before .read .ensures, c .before .before .before .imm-ci16 .ensures, eq-eqb _ _ (c .before .before .before .before .if1 .taken)) (Steps.unless (c .before .before .before .before .before .args .w) (c .before .before .before .before .before .args .pc) (c .before .before .before .before .before .args .x .now) _ _ _ (omega arith, refl))
 
 returns-2 : tie.Need-returns-2
 unfolding C.lui-addi16sp S.applied X.exec N.value
-returns-2 c = rw (c .unless3 .ensures, c .before .unless2 .ensures, c .before .before .imm-ci .ensures, ne-eqb _ _ (c .before .before .before .if1 .left)) (T.unless (c .before .before .before .before .args .w) (c .before .before .before .before .args .pc) (c .before .before .before .before .args .x .now) _ _ _ (T.unless (c .before .before .before .before .args .w) (c .before .before .before .before .args .pc) (c .before .before .before .before .args .x .now) _ _ _ (omega arith, refl)))
+returns-2 c = rw (c .unless3 .ensures, c .before .unless2 .ensures, c .before .before .imm-ci .ensures, ne-eqb _ _ (c .before .before .before .if1 .left)) (Steps.unless (c .before .before .before .before .args .w) (c .before .before .before .before .args .pc) (c .before .before .before .before .args .x .now) _ _ _ (Steps.unless (c .before .before .before .before .args .w) (c .before .before .before .before .args .pc) (c .before .before .before .before .args .x .now) _ _ _ (omega arith, refl)))
 
 pub lui-addi16sp-spec : {M : Type 1} → statement M
 lui-addi16sp-spec =

@@ -1,5 +1,5 @@
 use native.Mathlib.Omega.{arith}
-use Rattle.rv64.proofs.Steps as T
+use Rattle.rv64.proofs.Steps as Steps
 use Rattle.rv64.proofs.Tables.{missed}
 use Rattle.rv64.specs.Alu as N
 use Rattle.rv64.specs.Parts as S
@@ -24,7 +24,7 @@ returns-3 c = (omega arith, rw (c .imm-ci .ensures, c .before .match .keys3, c .
 
 returns-4 : tie.Need-returns-4
 unfolding C.misc-alu C.misc-alus
-returns-4 c = rw (c .put .ensures, c .before .arith .ensures, c .before .before .match .keys4, c .before .before .before .before .read2 .ensures, c .before .before .before .before .before .read .ensures) (T.arith (c .before .before .before .before .before .before .args .w) (c .before .before .before .before .before .before .args .pc) (c .before .before .before .before .before .before .args .x .now))
+returns-4 c = rw (c .put .ensures, c .before .arith .ensures, c .before .before .match .keys4, c .before .before .before .before .read2 .ensures, c .before .before .before .before .before .read .ensures) (Steps.arith (c .before .before .before .before .before .before .args .w) (c .before .before .before .before .before .before .args .pc) (c .before .before .before .before .before .before .args .x .now))
 
 returns-5 : tie.Need-returns-5
 unfolding C.misc-alu C.misc-alus S.applied X.exec N.value

@@ -1,7 +1,7 @@
 use native.Mathlib.Omega.{arith}
 use mathlib.Core.Path.{refl}
 use Rattle.rv64.proofs.Tables.{missed}
-use Rattle.rv64.proofs.Steps as T
+use Rattle.rv64.proofs.Steps as Steps
 use Rattle.rv64.specs.Alu as N
 use Rattle.rv64.specs.Parts as S
 use Rattle.rv64.specs.Execute as X
@@ -17,7 +17,7 @@ returns c = (omega arith, rw (c .wrapping-add-u64 .ensures, c .before .match .ke
 
 returns-2 : tie.Need-returns-2
 unfolding C.quadrant1 C.table1 S.applied X.exec N.value
-returns-2 c = rw (c .unless .ensures, c .before .sextw .ensures, c .before .before .wrapping-add-u642 .ensures, c .before .before .before .match .keys2, c .before .before .before .before .imm-ci .ensures, c .before .before .before .before .before .read .ensures) (T.unless (c .before .before .before .before .before .before .args .w) (c .before .before .before .before .before .before .args .pc) (c .before .before .before .before .before .before .args .x .now) _ _ _ (omega arith, refl))
+returns-2 c = rw (c .unless .ensures, c .before .sextw .ensures, c .before .before .wrapping-add-u642 .ensures, c .before .before .before .match .keys2, c .before .before .before .before .imm-ci .ensures, c .before .before .before .before .before .read .ensures) (Steps.unless (c .before .before .before .before .before .before .args .w) (c .before .before .before .before .before .before .args .pc) (c .before .before .before .before .before .before .args .x .now) _ _ _ (omega arith, refl))
 
 returns-3 : tie.Need-returns-3
 unfolding C.quadrant1 C.table1 S.applied X.exec X.read X.write N.value N.taken

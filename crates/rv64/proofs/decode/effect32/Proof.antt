@@ -1,6 +1,6 @@
 use native.Mathlib.Omega.{arith}
 use Rattle.isa.specs.Classes.{class-of}
-use Rattle.rv64.proofs.Steps as T
+use Rattle.rv64.proofs.Steps as Steps
 use Rattle.rv64.specs.Parts as S
 use Rattle.rv64.specs.Execute as X
 use Rattle.rv64.specs.Decode as D
@@ -10,19 +10,19 @@ use Rattle.rv64.proofs.decode.effect32.Tie as tie
 
 returns : tie.Need-returns
 unfolding D.decode32 D.by-class class-of D.op
-returns c = rw (c .put .ensures, c .before .op .ensures, c .before .before .match .keys1, c .before .before .before .read2 .ensures, c .before .before .before .before .read .ensures) (T.op (c .before .before .before .before .before .args .w) (c .before .before .before .before .before .args .pc) (c .before .before .before .before .before .args .x .now) D.ops)
+returns c = rw (c .put .ensures, c .before .op .ensures, c .before .before .match .keys1, c .before .before .before .read2 .ensures, c .before .before .before .before .read .ensures) (Steps.op (c .before .before .before .before .before .args .w) (c .before .before .before .before .before .args .pc) (c .before .before .before .before .before .args .x .now) D.ops)
 
 returns-2 : tie.Need-returns-2
 unfolding D.decode32 D.by-class class-of
-returns-2 c = rw (c .put2 .ensures, c .before .op-imm .ensures, c .before .before .match .keys2, c .before .before .before .before .read .ensures) (T.op-imm (c .before .before .before .before .before .args .w) (c .before .before .before .before .before .args .pc) (c .before .before .before .before .before .args .x .now))
+returns-2 c = rw (c .put2 .ensures, c .before .op-imm .ensures, c .before .before .match .keys2, c .before .before .before .before .read .ensures) (Steps.op-imm (c .before .before .before .before .before .args .w) (c .before .before .before .before .before .args .pc) (c .before .before .before .before .before .args .x .now))
 
 returns-3 : tie.Need-returns-3
 unfolding D.decode32 D.by-class class-of D.op32
-returns-3 c = rw (c .put3 .ensures, c .before .op-32 .ensures, c .before .before .match .keys3, c .before .before .before .read2 .ensures, c .before .before .before .before .read .ensures) (T.op (c .before .before .before .before .before .args .w) (c .before .before .before .before .before .args .pc) (c .before .before .before .before .before .args .x .now) D.ops32)
+returns-3 c = rw (c .put3 .ensures, c .before .op-32 .ensures, c .before .before .match .keys3, c .before .before .before .read2 .ensures, c .before .before .before .before .read .ensures) (Steps.op (c .before .before .before .before .before .args .w) (c .before .before .before .before .before .args .pc) (c .before .before .before .before .before .args .x .now) D.ops32)
 
 returns-4 : tie.Need-returns-4
 unfolding D.decode32 D.by-class class-of
-returns-4 c = rw (c .put4 .ensures, c .before .op-imm-32 .ensures, c .before .before .match .keys4, c .before .before .before .before .read .ensures) (T.op-imm-32 (c .before .before .before .before .before .args .w) (c .before .before .before .before .before .args .pc) (c .before .before .before .before .before .args .x .now))
+returns-4 c = rw (c .put4 .ensures, c .before .op-imm-32 .ensures, c .before .before .match .keys4, c .before .before .before .before .read .ensures) (Steps.op-imm-32 (c .before .before .before .before .before .args .w) (c .before .before .before .before .before .args .pc) (c .before .before .before .before .before .args .x .now))
 
 returns-5 : tie.Need-returns-5
 unfolding D.decode32 D.by-class class-of S.applied X.exec
@@ -42,11 +42,11 @@ returns-8 c = (omega arith, rw (c .wrapping-add-u643 .ensures, c .before .imm-i 
 
 returns-9 : tie.Need-returns-9
 unfolding D.decode32 D.by-class class-of
-returns-9 c = rw (c .branch .ensures, c .before .wrapping-add-u644 .ensures, c .before .before .imm-b .ensures, c .before .before .before .match .keys9, c .before .before .before .before .read2 .ensures, c .before .before .before .before .before .read .ensures, c .before .before .before .before .before .before .pre) (T.branch (c .before .before .before .before .before .before .args .w) (c .before .before .before .before .before .before .args .pc) (c .before .before .before .before .before .before .args .x .now))
+returns-9 c = rw (c .branch .ensures, c .before .wrapping-add-u644 .ensures, c .before .before .imm-b .ensures, c .before .before .before .match .keys9, c .before .before .before .before .read2 .ensures, c .before .before .before .before .before .read .ensures, c .before .before .before .before .before .before .pre) (Steps.branch (c .before .before .before .before .before .before .args .w) (c .before .before .before .before .before .before .args .pc) (c .before .before .before .before .before .before .args .x .now))
 
 returns-10 : tie.Need-returns-10
 unfolding D.decode32 D.by-class class-of S.applied X.exec
-returns-10 c = rw (c .other .ensures) (T.other (c .before .before .before .before .args .w) (c .before .before .before .before .args .pc) (c .before .before .before .before .args .x .now) _ (c .before .match .rest))
+returns-10 c = rw (c .other .ensures) (Steps.other (c .before .before .before .before .args .w) (c .before .before .before .before .args .pc) (c .before .before .before .before .args .x .now) _ (c .before .match .rest))
 
 pub effect32-spec : {M : Type 1} → statement M
 effect32-spec =

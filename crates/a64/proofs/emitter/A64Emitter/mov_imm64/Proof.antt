@@ -1,7 +1,6 @@
-use native.Mathlib.Omega.{arith}
 use borrow.Author.Needs.{needs}
 use Rattle.a64.specs.Parts.{held, block-words}
-use Rattle.a64.proofs.Emission.{emitted-new, constant-most}
+use Rattle.a64.proofs.Emission.{constant-new}
 use Rattle.a64.proofs.emitter.A64Emitter.mov_imm64.Statement.{statement}
 use Rattle.a64.proofs.emitter.A64Emitter.mov_imm64.Tie as tie
 
@@ -9,9 +8,7 @@ returns : tie.Need-returns
 unfolding held block-words
 returns c =
     let d = c .before .before .before .before in
-    let a = d .before .before .args in
-    let few = constant-most (a .rd) (a .val) in
-    rw (emitted-new _ _ _ (d .before .new .ensures) (d .mov-imm64 .ensures) (omega arith)) at (c .append-at .ensures .holds)
+    rw (constant-new _ _ _ _ (d .before .new .ensures) (d .mov-imm64 .ensures)) at (c .append-at .ensures .holds)
 
 pub mov-imm64-spec : {M : Type 1} → statement M
 mov-imm64-spec = tie.close (tie.spec (λ c κs. search needs) (λ c κs. search needs) (λ c κs. search needs) returns)
