@@ -1,6 +1,8 @@
 // What the programs share that replay recorded cases: reading a file of them, counting, and the report.
 ghost use mathlib.Core.Path.{_≡_};
+ghost use mathlib.Core.Bool.{true, cond};
 ghost use Prim.Native.Nat.{_≤_, _-_};
+ghost use Rattle.replay.specs.declared.Outcome.{Outcome};
 use libc::STDOUT_FILENO;
 
 // The file, open to read; below 0 where that fails, which is then said.
@@ -69,7 +71,9 @@ pub fn unnamed(x: &mut [u64]) {
     }
 }
 
-pub fn same_registers(x: &[u64], y: &[u64]) -> bool {
+pub fn same_registers(x: &[u64], y: &[u64]) -> bool
+    ensures { λ r. ⌜ (r ≡ true → now (x .entry) ≡ now (y .entry)) × (now (x .entry) ≡ now (y .entry) → r ≡ true) ⌝ }
+{
     if x.len() != y.len() {
         return false;
     }
@@ -92,7 +96,9 @@ pub enum Outcome {
     End,
 }
 
-pub fn outcome_of(equal: bool) -> Outcome {
+pub fn outcome_of(equal: bool) -> Outcome
+    ensures { λ r. ⌜ r ≡ cond equal Outcome.Equal Outcome.Differs ⌝ }
+{
     if equal {
         Outcome::Equal
     } else {
@@ -107,7 +113,9 @@ pub struct Tally {
     pub wrong: u32,
 }
 
-pub fn tally_of(left: u32) -> Tally {
+pub fn tally_of(left: u32) -> Tally
+    ensures { λ r. ⌜ (r .left ≡ left) × (r .cases ≡ 0) × (r .wrong ≡ 0) ⌝ }
+{
     Tally {
         left: left,
         cases: 0,
