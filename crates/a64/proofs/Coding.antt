@@ -187,7 +187,7 @@ pub encode-decode : (w : ℕ) → (decode w ≡ Unreadable → ⊥) → encode (
 encode-decode w = read w .1
 
 -- a form's word has 32 bits
-pub encode-lt : (f : Form) → InRange f → encode f < 2 ^ 32
+encode-lt : (f : Form) → InRange f → encode f < 2 ^ 32
 encode-lt (DataProcessing op d n m) r = let s = op-row op .small in let e = op-row op .whole in omega arith
 encode-lt (Ldr t n i) r = omega arith
 encode-lt (Str t n i) r = omega arith

@@ -1,5 +1,5 @@
 -- Laws of `emitted`, `emitted-all` and `mov-imm64`: chains of calls, sizes, room. Assumes nothing.
-use Prim.Native.Nat.{ℕ, zero, suc, _+_, _*_, _/_, _%_, _^_, _≤_, _<_, min}
+use Prim.Native.Nat.{ℕ, zero, suc, _+_, _*_, _%_, _^_, _≤_, _<_, min}
 use native.Mathlib.Omega.{arith}
 use native.Mathlib.Numerals.{add-one}
 use mathlib.Core.Path.{_≡_, refl, sym, ap, _∙_}
@@ -22,7 +22,7 @@ unfolding emitted-in
 emitted-fits m h ws f = rw (le-leb (length h + length ws) m f)
 
 -- words that do not fit are not
-pub emitted-full : (m : ℕ) (h ws : List ℕ) → m < length h + length ws → emitted-in m h ws ≡ h
+emitted-full : (m : ℕ) (h ws : List ℕ) → m < length h + length ws → emitted-in m h ws ≡ h
 unfolding emitted-in
 emitted-full m h ws f = rw (lt-leb (length h + length ws) m f)
 
@@ -36,7 +36,7 @@ unfolding emitted-in
 emitted-none m h = rw append-nil (cond-same (leb (length h + 0) m) h)
 
 -- the words of several calls, where all fit
-pub emitted-all-fits : (h : List ℕ) (gs : List (List ℕ)) → length h + length (flatten gs) ≤ instr-words → emitted-all h gs ≡ h ++ flatten gs
+emitted-all-fits : (h : List ℕ) (gs : List (List ℕ)) → length h + length (flatten gs) ≤ instr-words → emitted-all h gs ≡ h ++ flatten gs
 unfolding flatten
 emitted-all-fits h [] f = sym (append-nil h)
 emitted-all-fits h (g ∷ gs) f =
@@ -58,7 +58,7 @@ emitted-all-append h [] bs = refl
 emitted-all-append h (g ∷ gs) bs = emitted-all-append (emitted h g) gs bs
 
 -- where all fit, the calls are one
-pub emitted-all-one : (h : List ℕ) (gs : List (List ℕ)) → length h + length (flatten gs) ≤ instr-words → emitted-all h gs ≡ emitted h (flatten gs)
+emitted-all-one : (h : List ℕ) (gs : List (List ℕ)) → length h + length (flatten gs) ≤ instr-words → emitted-all h gs ≡ emitted h (flatten gs)
 emitted-all-one h gs f = emitted-all-fits h gs f ∙ sym (emitted-fits instr-words h (flatten gs) f)
 
 -- ---- an array of words
@@ -83,7 +83,7 @@ take-min (suc n) (x ∷ l) =
     rw e (ap (λ (t : List ℕ). x ∷ t) (take-min n l))
 
 -- the words that are held, by their count
-pub take-held : (m n : ℕ) (l : List ℕ) → length l ≡ m → take (min n m) l ≡ take n l
+take-held : (m n : ℕ) (l : List ℕ) → length l ≡ m → take (min n m) l ≡ take n l
 take-held m n l e = rw e at (take-min n l)
 
 -- the words of an emitter copied after n
@@ -102,7 +102,7 @@ pub length-bytes : (ws : List ℕ) → length (bytes ws) ≡ 4 * length ws
 length-bytes ws = length-all-bytes 4 ws
 
 -- all the held words as bytes, where they fit in d
-pub held-bytes : (ws : List ℕ) (len : ℕ) → length ws ≡ max-words → length (bytes (take len ws)) ≡ 4 * min len max-words
+held-bytes : (ws : List ℕ) (len : ℕ) → length ws ≡ max-words → length (bytes (take len ws)) ≡ 4 * min len max-words
 held-bytes ws len l = let k : length (take len ws) ≡ min len max-words = rw l at (length-take len ws) in omega (arith, length-bytes (take len ws))
 
 pub all-written : (ws d : List ℕ) (len : ℕ) → length ws ≡ max-words → 4 * min len max-words ≤ length d → (d′ : List ℕ)
@@ -152,16 +152,13 @@ pub constant-length : (rd v a b c : ℕ) → length (movk rd 1 (part v 1)) ≡ a
 unfolding mov-imm64
 constant-length rd v a b c e f g = simp (length-append, e, f, g) (omega arith)
 
--- a constant is 1 to 4 words
+-- a constant is at most 4 words
 pub constant-most : (rd v : ℕ) → length (mov-imm64 rd v) ≤ 4
 constant-most rd v =
     let a = movk-most rd 1 (part v 1) in
     let b = movk-most rd 2 (part v 2) in
     let c = movk-most rd 3 (part v 3) in
     omega (arith, constant-length rd v _ _ _ refl refl refl)
-
-pub constant-least : (rd v : ℕ) → 1 ≤ length (mov-imm64 rd v)
-constant-least rd v = omega (arith, constant-length rd v _ _ _ refl refl refl)
 
 -- a constant that fits is its parts, one after the other
 pub constant-one : (h : List ℕ) (rd v : ℕ) → length h + length (mov-imm64 rd v) ≤ instr-words

@@ -16,13 +16,13 @@ use Rattle.a64_run.specs.Parts.{Executed}
 use Rattle.a64_run.specs.Run.{words, Ran, ran, onward, run}
 
 -- one word
-pub run-word : (w : ℕ) (ws : List ℕ) (at budget k : ℕ) (s : State) → 0 < budget
+run-word : (w : ℕ) (ws : List ℕ) (at budget k : ℕ) (s : State) → 0 < budget
     → run (w ∷ ws) at budget k s ≡ onward (exec (decode w) s) at k (run ws (at + 4) (budget - 1) (suc k))
 unfolding run
 run-word w ws at zero k s h = absurd (omega arith)
 run-word w ws at (suc b) k s h = let e : suc b - 1 ≡ b = omega arith in rw e
 
-pub run-spent : (w : ℕ) (ws : List ℕ) (at budget k : ℕ) (s : State) → budget ≡ 0 → run (w ∷ ws) at budget k s ≡ ran End.Spent k s
+run-spent : (w : ℕ) (ws : List ℕ) (at budget k : ℕ) (s : State) → budget ≡ 0 → run (w ∷ ws) at budget k s ≡ ran End.Spent k s
 unfolding run
 run-spent w ws at budget k s h = rw h
 

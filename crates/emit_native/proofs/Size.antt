@@ -20,13 +20,13 @@ abbrev pub size : ℕ → List Call → ℕ
 size slot-offset cs = length (flatten (groups slot-offset cs))
 
 -- at most 4 words for a constant, and 1 for any other call
-abbrev pub cost : Call → ℕ
+abbrev cost : Call → ℕ
 cost (emit f) = 1
 cost (mov-imm64 rd v) = 4
 cost (load rt n) = 1
 cost (store rt n) = 1
 
-abbrev pub costs : List Call → ℕ
+abbrev costs : List Call → ℕ
 costs [] = 0
 costs (c ∷ cs) = cost c + costs cs
 

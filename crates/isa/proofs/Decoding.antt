@@ -9,7 +9,7 @@ use Rattle.isa.specs.Formats.{i-imm, b-imm, u-imm, j-imm, ciw-imm, ci-im
 use Rattle.isa.specs.Parts.{s-imm, decoded}
 use Rattle.isa.specs.Decode.{sign-extend, imm-i, imm-s, imm-b, imm-u, imm-j, imm-ci, shamt, imm-addi4spn, imm-addi16sp, imm-cj, imm-cb, decode32, bit}
 
-pub sign-extends : (val bits : ℕ) → 1 ≤ bits → bits ≤ 64 → sign-extend val bits ≡ sext bits val
+sign-extends : (val bits : ℕ) → 1 ≤ bits → bits ≤ 64 → sign-extend val bits ≡ sext bits val
 unfolding sign-extend
 sign-extends val bits h k = by-shifts val bits (64 - bits) h (omega arith)
 
@@ -41,7 +41,7 @@ module _ (w : ℕ) (h : w < 2 ^ 32) where
   imm-j-is = sign-extends (w / 2 ^ 31 % 2 * 2 ^ 20 + w / 2 ^ 12 % 256 * 2 ^ 12 + w / 2 ^ 20 % 2 * 2 ^ 11 + w / 2 ^ 21 % 1024 * 2 ^ 1) 21 (omega arith) (omega arith)
 
 -- the fields of a 32-bit word
-pub decode32-is : (w : ℕ) → decode32 w ≡ decoded w
+decode32-is : (w : ℕ) → decode32 w ≡ decoded w
 decode32-is w = refl
 
 -- a field of n + 1 bits: its lowest, and the others

@@ -74,7 +74,7 @@ module _ (h : Host) (pc instr : ℕ) where
 -- ---- a helper's call
 
 -- a constant of 16 bits is one word
-pub constant-small : (rd v : ℕ) → v < 65536 → length (Writers.mov-imm64 rd v) ≡ 1
+constant-small : (rd v : ℕ) → v < 65536 → length (Writers.mov-imm64 rd v) ≡ 1
 constant-small rd v h =
     let a : Writers.part v 1 ≡ 0 = omega arith in
     let b : Writers.part v 2 ≡ 0 = omega arith in

@@ -19,7 +19,7 @@ use Rattle.emit_native.proofs.Size.{by}
 use Rattle.jit_arm64.specs.declared.block.NativeBlock.{NativeBlock}
 use Rattle.jit_arm64.specs.Block.{fetch, whole-walk, block-of, compile-native-block}
 use Rattle.jit_arm64.specs.Parts.{BlockOf, is-uncovered, first-refusal}
-use Rattle.jit_arm64.specs.Translate.{result, refused, by-helper, accepted, bad-slot-offset, is-missing, no-block, of-block, translate}
+use Rattle.jit_arm64.specs.Translate.{result, refused, by-helper, bad-slot-offset, is-missing, no-block, of-block, translate}
 use Rattle.jit_arm64.proofs.Refusals.{refuses, no-block-is}
 
 module _ (h : Host) (guest : List ℕ) (pc limit : ℕ) where

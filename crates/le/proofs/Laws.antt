@@ -32,14 +32,14 @@ pub load-add : (a b : ℕ) (m : List ℕ) (i : ℕ) → load (a + b) m i ≡ loa
 unfolding load
 load-add a b m i = number-take a b (drop i m) ∙ rw (drop-drop a i m)
 
-pub bytes-add : (a b v : ℕ) → bytes (a + b) v ≡ bytes a v ++ bytes b (v / 256 ^ a)
+bytes-add : (a b v : ℕ) → bytes (a + b) v ≡ bytes a v ++ bytes b (v / 256 ^ a)
 unfolding bytes
 bytes-add zero b v = rw (zero-add b, div-one v)
 bytes-add (suc a) b v =
     rw (suc-add a b, pow-suc 256 a, mul-comm (256 ^ a) 256, ← div-div-eq-div-mul v 256 (256 ^ a), bytes-add a b (v / 256))
 
 -- only the low k bytes of a number count
-pub bytes-low : (k v : ℕ) → bytes k (v % 256 ^ k) ≡ bytes k v
+bytes-low : (k v : ℕ) → bytes k (v % 256 ^ k) ≡ bytes k v
 unfolding bytes
 bytes-low zero v = refl
 bytes-low (suc k) v =
@@ -142,7 +142,7 @@ load-other k m i v j hi hj (inr h) =
     (λ t l. let q : i + k + (j - (i + k) + t) ≡ j + t = omega arith in rw q at (store-above k m i v (j - (i + k) + t) (omega arith)))
 
 -- a load of bytes has as many
-pub bytes-drop : (i : ℕ) (m : List ℕ) → Bytes m → Bytes (drop i m)
+bytes-drop : (i : ℕ) (m : List ℕ) → Bytes m → Bytes (drop i m)
 unfolding Bytes
 bytes-drop i m h j = rw (getD-drop i m j 0) (h (i + j))
 

@@ -188,9 +188,6 @@ opcode-of n =
 
 -- ---- the encodings
 
-low-fields : (w : ℕ) → (rd w < 32) × (rs1 w < 32) × (rs2 w < 32)
-low-fields w = (omega arith, omega arith, omega arith)
-
 module _ (r₀ : ℕ → ℕ) (pc : ℕ) (v : Model) (κ : Kept r₀ true v) (z : getD (v .slots) 0 0 ≡ 0) (w : ℕ) (hw : w < 2 ^ 32) where
   f3-lt : funct3 w < 8
   f3-lt = omega arith

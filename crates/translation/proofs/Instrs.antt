@@ -5,7 +5,7 @@ use mathlib.Core.List.{List, [], _∷_, _++_}
 use Prim.Native.Nat.{ℕ, _-_, _*_, _/_, _^_, _<_}
 use native.Mathlib.Omega.{arith}
 use lib.Bits.{bitAnd, and-high}
-use lib.Dec.{eqb, leb, ltb, T}
+use lib.Dec.{eqb, leb, T}
 use lib.ListN.{getD, set}
 use borrow.Author.Tests.{eqb-true}
 use Rattle.word.specs.Word.{add}
@@ -32,7 +32,7 @@ unfolding calls-run
 run-append [] ds v = refl
 run-append (c ∷ cs) ds v = run-append cs ds (call-step c v)
 
-pub keep-append : (b : Bool) (cs ds : List Call) → all-keep b (cs ++ ds) ≡ all-keep (all-keep b cs) ds
+keep-append : (b : Bool) (cs ds : List Call) → all-keep b (cs ++ ds) ≡ all-keep (all-keep b cs) ds
 unfolding all-keep
 keep-append b [] ds = refl
 keep-append b (c ∷ cs) ds = keep-append (keeps b c) cs ds
@@ -67,20 +67,20 @@ pub record Does (cs : List Call) (v : Model) (rs : List ℕ) : Type 0 where
 -- ---- agreement of an instruction with an emission
 
 -- goes on to the next instruction
-pub record Continues (n pc : ℕ) (v : Model) (x : List ℕ) (to : ℕ) (e : Emission) : Type 0 where
+record Continues (n pc : ℕ) (v : Model) (x : List ℕ) (to : ℕ) (e : Emission) : Type 0 where
   pub flow : e .flow ≡ EmitFlow.Continue
   pub does : Does (e .calls) v x
   pub stay : T (all-keep true (e .calls))
   pub next : to ≡ add pc n
 
 -- ends the block, with the next PC in X0
-pub record Terminates (v : Model) (x : List ℕ) (to : ℕ) (e : Emission) : Type 0 where
+record Terminates (v : Model) (x : List ℕ) (to : ℕ) (e : Emission) : Type 0 where
   pub flow : e .flow ≡ EmitFlow.Terminate
   pub does : Does (e .calls) v x
   pub next : calls-run (e .calls) v .r 0 ≡ to
 
 -- is not inline, and leaves at most scratch words
-pub record Leaves (e : Emission) : Type 0 where
+record Leaves (e : Emission) : Type 0 where
   pub flow : e .flow ≡ EmitFlow.None
   pub fine : Fine (e .calls)
 

@@ -10,7 +10,7 @@ use borrow.Author.Tests.{eqb-true, eqb-false, ltb-false}
 use Rattle.rules.specs.Limits.{max-instrs, max-slot-offset}
 use Rattle.le.specs.Le.{Bytes}
 use Rattle.emit_native.specs.declared.Host.{Host}
-use Rattle.jit_arm64.specs.Block.{fetch, Walk, whole-walk, Block, block-of, compile-native-block}
+use Rattle.jit_arm64.specs.Block.{fetch, Walk, whole-walk, block-of}
 use Rattle.jit_arm64.specs.Translate.{Result, by-helper, accepted, bad-slot-offset, is-missing, no-block, of-block, translate}
 use Rattle.jit_arm64.proofs.Refusals.{first, refuses, no-block-is}
 use Rattle.translation.specs.Demand3.{Demand3}

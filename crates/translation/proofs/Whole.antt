@@ -39,7 +39,7 @@ use Rattle.translation.proofs.Blocks.{next-calls, walk-calls, Walks, wa
 
 -- ---- words and bytes
 
-pub words-bytes : (ws : List ℕ) → Fit 4 ws → A64.words (bytes ws) ≡ ws
+words-bytes : (ws : List ℕ) → Fit 4 ws → A64.words (bytes ws) ≡ ws
 words-bytes ws h = let e : length (bytes ws) / 4 ≡ length ws = omega (arith, length-all-bytes 4 ws) in rw e (numbers-bytes 4 ws h)
 
 straight-words : (ws vs : List ℕ) (s t : State) → Straight ws s t → Fit 4 vs → Fit 4 (ws ++ vs)

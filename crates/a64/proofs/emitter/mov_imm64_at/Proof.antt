@@ -1,7 +1,7 @@
 use borrow.Author.Needs.{needs}
 use native.Mathlib.Omega.{arith}
 use Prim.Native.Nat.{_+_, _≤_}
-use mathlib.Core.Path.{_≡_, sym}
+use mathlib.Core.Path.{sym}
 use lib.ListN.{length, take, length-take}
 use Rattle.a64.specs.Writers.{mov-imm64}
 use Rattle.rules.specs.Limits.{instr-words}

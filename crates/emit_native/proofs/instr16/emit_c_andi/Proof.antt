@@ -1,5 +1,4 @@
 use Rattle.emit_native.specs.Instr16.{c-andi}
-use Rattle.a64.specs.Writers.{and-x}
 use Rattle.isa.proofs.Decoding.{imm-ci-is}
 use borrow.Author.Needs.{needs}
 use Rattle.emit_native.proofs.instr16.emit_c_andi.Statement.{statement}

@@ -1,7 +1,6 @@
 use mathlib.Core.Path.{refl}
 use borrow.Author.Tests.{eq-eqb, ne-eqb}
 use Rattle.emit_native.specs.Instr16.{c-slli}
-use Rattle.a64.specs.Writers.{lslv-x}
 use Rattle.isa.proofs.Decoding.{shamt-is}
 use borrow.Author.Needs.{needs}
 use Rattle.emit_native.proofs.instr16.emit_c_slli.Statement.{statement}

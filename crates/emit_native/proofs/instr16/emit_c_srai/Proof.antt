@@ -1,5 +1,4 @@
 use Rattle.emit_native.specs.Instr16.{c-srai}
-use Rattle.a64.specs.Writers.{asrv-x}
 use Rattle.isa.proofs.Decoding.{shamt-is}
 use borrow.Author.Needs.{needs}
 use Rattle.emit_native.proofs.instr16.emit_c_srai.Statement.{statement}

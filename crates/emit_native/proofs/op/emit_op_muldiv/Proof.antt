@@ -1,7 +1,6 @@
 use mathlib.Core.Path.{refl}
 use borrow.Author.Tests.{ne-eqb}
 use Rattle.emit_native.specs.Instr32.{op-arm}
-use Rattle.a64.specs.Writers.{sdiv-x, udiv-x}
 use borrow.Author.Needs.{needs}
 use Rattle.emit_native.proofs.op.emit_op_muldiv.Statement.{statement}
 use Rattle.emit_native.proofs.op.emit_op_muldiv.Tie as tie
