@@ -83,10 +83,10 @@ ret-is = refl
 -- ---- constants
 
 -- MOVK of a part that is not 0, and all of a constant
-unfoldable movk-forms : ℕ → ℕ → ℕ → List Form
+unfoldable pub movk-forms : ℕ → ℕ → ℕ → List Form
 movk-forms rd hw p = cond (eqb p 0) [] (Movk rd hw p ∷ [])
 
-unfoldable mov-forms : ℕ → ℕ → List Form
+unfoldable pub mov-forms : ℕ → ℕ → List Form
 mov-forms rd val = Movz rd 0 (val % 65536) ∷ (movk-forms rd 1 (part val 1) ++ (movk-forms rd 2 (part val 2) ++ movk-forms rd 3 (part val 3)))
 
 map-cond : (b : Bool) (f : Form) → cond b [] (encode f ∷ []) ≡ map encode (cond b [] (f ∷ []))

@@ -15,8 +15,8 @@ use Rattle.a64.specs.Forms.{encode, decode}
 use Rattle.a64.specs.Writers.{part, movk, mov-imm64}
 use Rattle.a64.specs.Parts.{InRange}
 use Rattle.a64.proofs.Coding.{decode-encode, decode-lt}
-use Rattle.a64_run.specs.declared.exec.Outcome.{Outcome}
-use Rattle.a64_run.specs.Exec.{State, reg, with-reg, insert, After, after, exec, next}
+use Rattle.a64_exec.specs.declared.exec.Outcome.{Outcome}
+use Rattle.a64_exec.specs.Exec.{State, reg, with-reg, insert, After, after, exec, next}
 use Rattle.a64_run.specs.Run.{run, onward}
 
 -- from s to t over the words

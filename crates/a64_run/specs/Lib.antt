@@ -1,4 +1,1 @@
-pub mod Exec
 pub mod Run
-pub mod Nzcv
-pub mod Parts

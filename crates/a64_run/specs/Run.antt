@@ -8,11 +8,11 @@ use Rattle.rules.specs.Refusals as Refusals
 use Rattle.word.specs.Word.{wrap}
 use Rattle.le.specs.Le.{numbers}
 use Rattle.a64.specs.Forms.{decode}
-use Rattle.a64_run.specs.declared.state.A64State.{A64State}
-use Rattle.a64_run.specs.declared.exec.Outcome.{Outcome}
+use Rattle.a64_exec.specs.declared.state.A64State.{A64State}
+use Rattle.a64_exec.specs.declared.exec.Outcome.{Outcome}
 use Rattle.a64_run.specs.declared.run.End.{End}
 use Rattle.a64_run.specs.declared.run.Answer.{Answer}
-use Rattle.a64_run.specs.Exec.{State, machine, with-reg, After, exec}
+use Rattle.a64_exec.specs.Exec.{State, machine, with-reg, After, exec}
 
 -- the words of a block's bytes
 abbrev pub words : List ℕ → List ℕ

@@ -1,4 +1,2 @@
-// The A64 machine: its state, what each form does, and the run of a block.
-pub mod exec;
+// The run of a block on the A64 machine.
 pub mod run;
-pub mod state;

@@ -5,14 +5,14 @@ ghost use lib.Dec.{ltb};
 ghost use lib.ListN.{length};
 ghost use Rattle.le.specs.Le.{load};
 ghost use Rattle.a64.specs.Forms.{decode};
-ghost use Rattle.a64_run.specs.Exec.{machine};
-ghost use Rattle.a64_run.specs.Parts.{Executed};
+ghost use Rattle.a64_exec.specs.Exec.{machine};
+ghost use Rattle.a64_exec.specs.Parts.{Executed};
 ghost use Rattle.a64_run.specs.Run as A64;
-use crate::exec;
-use crate::exec::Outcome;
-use crate::exec::Stepped;
-use crate::state::A64State;
-use crate::state::Flags;
+use a64_exec::exec;
+use a64_exec::exec::Outcome;
+use a64_exec::exec::Stepped;
+use a64_exec::state::A64State;
+use a64_exec::state::Flags;
 use rules::refusals;
 
 // How a run ended.

@@ -10,9 +10,9 @@ use Rattle.code_cache.specs.Place as P
 use Rattle.rv64.specs.declared.run.Hart.{Hart}
 use Rattle.rv64.specs.declared.run.Answer as RvAnswer
 use Rattle.rv64.specs.Run.{number, answer}
-use Rattle.a64_run.specs.declared.state.A64State.{A64State}
+use Rattle.a64_exec.specs.declared.state.A64State.{A64State}
 use Rattle.a64_run.specs.Run as A64
-use Rattle.a64_run.specs.Nzcv.{flags-of, nzcv-of}
+use Rattle.a64_exec.specs.Nzcv.{flags-of, nzcv-of}
 use Rattle.hilofanur.specs.declared.TranslateAnswer.{TranslateAnswer}
 use Rattle.hilofanur.specs.declared.PlaceAnswer.{PlaceAnswer}
 use Rattle.hilofanur.specs.declared.A64RunAnswer.{A64RunAnswer}

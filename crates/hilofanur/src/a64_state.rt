@@ -2,8 +2,8 @@
 ghost use mathlib.Core.Path.{_≡_};
 ghost use lib.ListN.{length};
 ghost use Rattle.hilofanur.specs.Answers as Answers;
-use a64_run::state;
-use a64_run::state::A64State;
+use a64_exec::state;
+use a64_exec::state::A64State;
 
 pub fn from_bytes(b: &[u8]) -> A64State
     requires { ⌜ length (now b) ≡ 264 ⌝ }

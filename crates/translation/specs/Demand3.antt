@@ -8,7 +8,7 @@ use lib.ListN.{length, getD}
 use Rattle.word.specs.Word.{wrap}
 use Rattle.le.specs.Le.{Bytes, load}
 use Rattle.a64_run.specs.declared.run.End.{End}
-use Rattle.a64_run.specs.Exec.{State, reg}
+use Rattle.a64_exec.specs.Exec.{State, reg}
 use Rattle.a64_run.specs.Run as A64
 use Rattle.rv64.specs.declared.run.Ran as RV
 use Rattle.rv64.specs.Run as Rv64

@@ -1,5 +1,5 @@
 use mathlib.Core.Path.{_∙_, ap}
-use Rattle.a64_run.specs.declared.state.A64State.{A64State}
+use Rattle.a64_exec.specs.declared.state.A64State.{A64State}
 use Rattle.a64_run.specs.Run as A64
 use borrow.Author.Tests.{ne-eqb}
 use borrow.Author.Needs.{needs}

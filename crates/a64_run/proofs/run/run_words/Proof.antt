@@ -3,7 +3,7 @@ use native.Mathlib.Nat.{add-assoc}
 use native.Mathlib.Numerals.{add-one}
 use Prim.Native.Nat.{_-_}
 use lib.ListN.{length}
-use Rattle.a64_run.specs.Exec.{machine}
+use Rattle.a64_exec.specs.Exec.{machine}
 use Rattle.a64_run.specs.Run.{words, run, onward}
 use Rattle.a64_run.proofs.RunLaws.{Running, start, off-end, spent, ended, onto}
 use Rattle.a64_run.proofs.run.run_words.Statement.{statement}

@@ -1,0 +1,3 @@
+pub mod Exec
+pub mod Nzcv
+pub mod Parts

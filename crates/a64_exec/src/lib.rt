@@ -1,0 +1,3 @@
+// The A64 machine: its state, and what each form does.
+pub mod exec;
+pub mod state;
