@@ -6,8 +6,8 @@ ghost use lib.ListN.{length, getD, set};
 ghost use Rattle.a64_exec.specs.Exec.{op-value, compared, holds-even, holds, insert, machine};
 ghost use Rattle.a64_exec.specs.Parts.{Within, Reached, Executed};
 ghost use Rattle.a64.specs.Parts.{InRange};
-ghost use Rattle.a64_exec.specs.declared.state.Flags as Flags;
-ghost use Rattle.a64_exec.specs.declared.exec.Outcome as Outcome;
+ghost use Rattle.a64_exec.specs.declared.state.Flags as DeclaredFlags;
+ghost use Rattle.a64_exec.specs.declared.exec.Outcome as DeclaredOutcome;
 use crate::state::Flags;
 use a64::Form;
 use a64::Op;
@@ -163,7 +163,7 @@ fn within(a: u64, base: u64, len: usize) -> Access
 // Where an access through register n at the offset imm * 8 lies. Register 31 is SP.
 fn locate(x: &[u64; 31], sp: u64, n: u32, imm: u32, base: u64, memory: &[u8]) -> Access
     requires { ⌜ (length (now x) ≡ 31) × (imm < 4096) ⌝ }
-    ensures { λ r. ⌜ ((flags : Flags.Flags) → Reached (machine (now (x .entry)) sp flags base (now (memory .entry))) n imm r) ⌝ }
+    ensures { λ r. ⌜ ((flags : DeclaredFlags.Flags) → Reached (machine (now (x .entry)) sp flags base (now (memory .entry))) n imm r) ⌝ }
 {
     let offset = (imm as u64) * 8;
     if n == 31 {
@@ -246,7 +246,7 @@ fn select(x: &[u64; 31], test: bool, n: u32, m: u32) -> u64
 // A form that leaves v in register rd.
 fn result(x: &mut [u64; 31], sp: u64, flags: Flags, rd: u32, v: u64) -> Stepped
     requires { ⌜ length (now x) ≡ 31 ⌝ }
-    ensures { λ r. ⌜ (r ≡ record { outcome = Outcome.Outcome.Next; sp = sp; flags = flags }) × (now (x .exit) ≡ set (now (x .entry)) rd v) ⌝ }
+    ensures { λ r. ⌜ (r ≡ record { outcome = DeclaredOutcome.Outcome.Next; sp = sp; flags = flags }) × (now (x .exit) ≡ set (now (x .entry)) rd v) ⌝ }
 {
     put(x, rd, v);
     leave(Outcome::Next, sp, flags)
