@@ -2,8 +2,5 @@ use borrow.Author.Needs.{needs}
 use Rattle.emit_native.proofs.calls.load.Statement.{statement}
 use Rattle.emit_native.proofs.calls.load.Tie as tie
 
-returns : tie.Need-returns
-returns c = rw (c .emit .ensures, c .before .ldr-x .ensures, c .before .before .reg-off .ensures .0)
-
 pub load-spec : {M : Type 1} → statement M
-load-spec = tie.close (tie.spec (λ c κs. search needs) (λ c κs. search needs) (λ c κs. search needs) returns)
+load-spec = tie.close (tie.spec (λ c κs. search needs) (λ c κs. search needs) (λ c κs. search needs) (λ c. rw (c .emit .ensures, c .before .ldr-x .ensures, c .before .before .reg-off .ensures .0)))

@@ -2,8 +2,5 @@ use borrow.Author.Needs.{needs}
 use Rattle.emit_native.proofs.calls.load_both.Statement.{statement}
 use Rattle.emit_native.proofs.calls.load_both.Tie as tie
 
-returns : tie.Need-returns
-returns c = rw (c .load2 .ensures, c .before .load .ensures)
-
 pub load-both-spec : {M : Type 1} → statement M
-load-both-spec = tie.close (tie.spec (λ c κs. search needs) (λ c κs. search needs) returns)
+load-both-spec = tie.close (tie.spec (λ c κs. search needs) (λ c κs. search needs) (λ c. rw (c .load2 .ensures, c .before .load .ensures)))

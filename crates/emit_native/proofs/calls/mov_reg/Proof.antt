@@ -4,11 +4,5 @@ use borrow.Author.Needs.{needs}
 use Rattle.emit_native.proofs.calls.mov_reg.Statement.{statement}
 use Rattle.emit_native.proofs.calls.mov_reg.Tie as tie
 
-returns : tie.Need-returns
-returns c = rw (eq-eqb _ _ (c .if1 .taken)) refl
-
-returns-2 : tie.Need-returns-2
-returns-2 c = rw (ne-eqb _ _ (c .before .before .if1 .left)) rw (c .store .ensures, c .before .mov-imm64 .ensures)
-
 pub mov-reg-spec : {M : Type 1} → statement M
-mov-reg-spec = tie.close (tie.spec returns (λ c κs. search needs) (λ c κs. search needs) returns-2)
+mov-reg-spec = tie.close (tie.spec (λ c. rw (eq-eqb _ _ (c .if1 .taken)) refl) (λ c κs. search needs) (λ c κs. search needs) (λ c. rw (ne-eqb _ _ (c .before .before .if1 .left)) rw (c .store .ensures, c .before .mov-imm64 .ensures)))

@@ -2,8 +2,5 @@ use borrow.Author.Needs.{needs}
 use Rattle.emit_native.proofs.calls.store.Statement.{statement}
 use Rattle.emit_native.proofs.calls.store.Tie as tie
 
-returns : tie.Need-returns
-returns c = rw (c .emit .ensures, c .before .str-x .ensures, c .before .before .reg-off .ensures .0)
-
 pub store-spec : {M : Type 1} → statement M
-store-spec = tie.close (tie.spec (λ c κs. search needs) (λ c κs. search needs) (λ c κs. search needs) returns)
+store-spec = tie.close (tie.spec (λ c κs. search needs) (λ c κs. search needs) (λ c κs. search needs) (λ c. rw (c .emit .ensures, c .before .str-x .ensures, c .before .before .reg-off .ensures .0)))

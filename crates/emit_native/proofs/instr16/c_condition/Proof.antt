@@ -4,11 +4,5 @@ use borrow.Author.Tests.{eq-eqb, ne-eqb}
 use Rattle.emit_native.proofs.instr16.c_condition.Statement.{statement}
 use Rattle.emit_native.proofs.instr16.c_condition.Tie as tie
 
-returns : tie.Need-returns
-returns c = (rw (eq-eqb _ _ (c .if1 .taken)) refl, omega arith)
-
-returns-2 : tie.Need-returns-2
-returns-2 c = (rw (ne-eqb _ _ (c .if1 .left)) refl, omega arith)
-
 pub c-condition-spec : {M : Type 1} → statement M
-c-condition-spec = tie.close (tie.spec returns returns-2)
+c-condition-spec = tie.close (tie.spec (λ c. (rw (eq-eqb _ _ (c .if1 .taken)) refl, omega arith)) (λ c. (rw (ne-eqb _ _ (c .if1 .left)) refl, omega arith)))

@@ -6,23 +6,16 @@ use borrow.Author.Needs.{needs}
 use Rattle.emit_native.proofs.instr16.emit_addi4spn.Statement.{statement}
 use Rattle.emit_native.proofs.instr16.emit_addi4spn.Tie as tie
 
-returns : tie.Need-returns
-unfolding addi4spn
-returns c = rw (imm-addi4spn-is (c .before .before .before .args .instr), ← c .before .before .imm-ciw .ensures, eq-eqb _ _ (c .before .if1 .taken)) (c .none .ensures _ _ _ refl)
-
-returns-2 : tie.Need-returns-2
-unfolding addi4spn
-returns-2 c = rw (imm-addi4spn-is (c .before .before .before .before .before .before .args .instr), ← c .before .before .before .before .before .imm-ciw .ensures, ne-eqb _ _ (c .before .before .before .before .if1 .left)) (c .go-on .ensures _ _ _ (rw (c .before .with-imm .ensures, c .before .before .before .add-x .ensures, c .before .before .low-prime .ensures .0)))
-
 pub emit-addi4spn-spec : {M : Type 1} → statement M
+unfolding addi4spn
 emit-addi4spn-spec =
     tie.close
     (tie.spec
     (λ c κs. search needs)
     (λ c κs. search needs)
-    returns
+    (λ c. rw (imm-addi4spn-is (c .before .before .before .args .instr), ← c .before .before .imm-ciw .ensures, eq-eqb _ _ (c .before .if1 .taken)) (c .none .ensures _ _ _ refl))
     (λ c κs. search needs)
     (λ c κs. search needs)
     (λ c κs. search needs)
     (λ c κs. search needs)
-    returns-2)
+    (λ c. rw (imm-addi4spn-is (c .before .before .before .before .before .before .args .instr), ← c .before .before .before .before .before .imm-ciw .ensures, ne-eqb _ _ (c .before .before .before .before .if1 .left)) (c .go-on .ensures _ _ _ (rw (c .before .with-imm .ensures, c .before .before .before .add-x .ensures, c .before .before .low-prime .ensures .0)))))

@@ -5,23 +5,16 @@ use borrow.Author.Needs.{needs}
 use Rattle.emit_native.proofs.instr16.emit_c_add.Statement.{statement}
 use Rattle.emit_native.proofs.instr16.emit_c_add.Tie as tie
 
-returns : tie.Need-returns
-unfolding c-add
-returns c = rw (eq-eqb _ _ (c .before .if1 .taken)) (c .none .ensures _ _ _ refl)
-
-returns-2 : tie.Need-returns-2
-unfolding c-add
-returns-2 c = rw (ne-eqb _ _ (c .before .before .before .before .before .if1 .left)) (c .go-on .ensures _ _ _ (rw (c .before .store .ensures, c .before .before .emit .ensures, c .before .before .before .add-x .ensures, c .before .before .before .before .load-both .ensures)))
-
 pub emit-c-add-spec : {M : Type 1} → statement M
+unfolding c-add
 emit-c-add-spec =
     tie.close
     (tie.spec
     (λ c κs. search needs)
-    returns
+    (λ c. rw (eq-eqb _ _ (c .before .if1 .taken)) (c .none .ensures _ _ _ refl))
     (λ c κs. search needs)
     (λ c κs. search needs)
     (λ c κs. search needs)
     (λ c κs. search needs)
     (λ c κs. search needs)
-    returns-2)
+    (λ c. rw (ne-eqb _ _ (c .before .before .before .before .before .if1 .left)) (c .go-on .ensures _ _ _ (rw (c .before .store .ensures, c .before .before .emit .ensures, c .before .before .before .add-x .ensures, c .before .before .before .before .load-both .ensures)))))

@@ -6,22 +6,15 @@ use borrow.Author.Needs.{needs}
 use Rattle.emit_native.proofs.instr16.emit_c_addi16sp.Statement.{statement}
 use Rattle.emit_native.proofs.instr16.emit_c_addi16sp.Tie as tie
 
-returns : tie.Need-returns
-unfolding c-addi16sp
-returns c = rw (imm-addi16sp-is (c .before .before .before .args .instr), ← c .before .before .imm-ci16 .ensures, eq-eqb _ _ (c .before .if1 .taken)) (c .none .ensures _ _ _ refl)
-
-returns-2 : tie.Need-returns-2
-unfolding c-addi16sp
-returns-2 c = rw (imm-addi16sp-is (c .before .before .before .before .before .args .instr), ← c .before .before .before .before .imm-ci16 .ensures, ne-eqb _ _ (c .before .before .before .if1 .left)) (c .go-on .ensures _ _ _ (rw (c .before .with-imm .ensures, c .before .before .add-x .ensures)))
-
 pub emit-c-addi16sp-spec : {M : Type 1} → statement M
+unfolding c-addi16sp
 emit-c-addi16sp-spec =
     tie.close
     (tie.spec
     (λ c κs. search needs)
     (λ c κs. search needs)
-    returns
+    (λ c. rw (imm-addi16sp-is (c .before .before .before .args .instr), ← c .before .before .imm-ci16 .ensures, eq-eqb _ _ (c .before .if1 .taken)) (c .none .ensures _ _ _ refl))
     (λ c κs. search needs)
     (λ c κs. search needs)
     (λ c κs. search needs)
-    returns-2)
+    (λ c. rw (imm-addi16sp-is (c .before .before .before .before .before .args .instr), ← c .before .before .before .before .imm-ci16 .ensures, ne-eqb _ _ (c .before .before .before .if1 .left)) (c .go-on .ensures _ _ _ (rw (c .before .with-imm .ensures, c .before .before .add-x .ensures)))))

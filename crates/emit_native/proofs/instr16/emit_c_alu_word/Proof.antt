@@ -5,19 +5,8 @@ use borrow.Author.Needs.{needs}
 use Rattle.emit_native.proofs.instr16.emit_c_alu_word.Statement.{statement}
 use Rattle.emit_native.proofs.instr16.emit_c_alu_word.Tie as tie
 
-returns : tie.Need-returns
-unfolding c-alu
-returns c = rw (c .before .before .before .before .before .before .match .keys1) (c .go-on .ensures _ _ _ (rw (c .before .store .ensures, c .before .before .emit2 .ensures, c .before .before .before .sxtw-x .ensures, c .before .before .before .before .emit .ensures, c .before .before .before .before .before .sub-x .ensures)))
-
-returns-2 : tie.Need-returns-2
-unfolding c-alu
-returns-2 c = rw (c .before .before .before .before .before .before .match .keys2) (c .go-on2 .ensures _ _ _ (rw (c .before .store2 .ensures, c .before .before .emit4 .ensures, c .before .before .before .sxtw-x2 .ensures, c .before .before .before .before .emit3 .ensures, c .before .before .before .before .before .add-x .ensures)))
-
-returns-3 : tie.Need-returns-3
-unfolding c-alu
-returns-3 c = rw (ne-eqb _ _ (c .before .match .rest .0 .1), ne-eqb _ _ (c .before .match .rest .1)) (c .none .ensures _ _ _ refl)
-
 pub emit-c-alu-word-spec : {M : Type 1} → statement M
+unfolding c-alu
 emit-c-alu-word-spec =
     tie.close
     (tie.spec
@@ -34,6 +23,6 @@ emit-c-alu-word-spec =
     (λ c κs. search needs)
     (λ c κs. search needs)
     (λ c κs. search needs)
-    returns
-    returns-2
-    returns-3)
+    (λ c. rw (c .before .before .before .before .before .before .match .keys1) (c .go-on .ensures _ _ _ (rw (c .before .store .ensures, c .before .before .emit2 .ensures, c .before .before .before .sxtw-x .ensures, c .before .before .before .before .emit .ensures, c .before .before .before .before .before .sub-x .ensures))))
+    (λ c. rw (c .before .before .before .before .before .before .match .keys2) (c .go-on2 .ensures _ _ _ (rw (c .before .store2 .ensures, c .before .before .emit4 .ensures, c .before .before .before .sxtw-x2 .ensures, c .before .before .before .before .emit3 .ensures, c .before .before .before .before .before .add-x .ensures))))
+    (λ c. rw (ne-eqb _ _ (c .before .match .rest .0 .1), ne-eqb _ _ (c .before .match .rest .1)) (c .none .ensures _ _ _ refl)))

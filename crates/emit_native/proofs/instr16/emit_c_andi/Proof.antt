@@ -4,11 +4,8 @@ use borrow.Author.Needs.{needs}
 use Rattle.emit_native.proofs.instr16.emit_c_andi.Statement.{statement}
 use Rattle.emit_native.proofs.instr16.emit_c_andi.Tie as tie
 
-returns : tie.Need-returns
-unfolding c-andi
-returns c = c .go-on .ensures _ _ _ (rw (c .before .with-imm .ensures, c .before .before .before .and-x .ensures, c .before .before .imm-ci .ensures, c .before .before .before .before .high-prime .ensures .0, imm-ci-is (c .before .before .before .before .before .args .instr)))
-
 pub emit-c-andi-spec : {M : Type 1} → statement M
+unfolding c-andi
 emit-c-andi-spec =
     tie.close
     (tie.spec
@@ -17,4 +14,4 @@ emit-c-andi-spec =
     (λ c κs. search needs)
     (λ c κs. search needs)
     (λ c κs. search needs)
-    returns)
+    (λ c. c .go-on .ensures _ _ _ (rw (c .before .with-imm .ensures, c .before .before .before .and-x .ensures, c .before .before .imm-ci .ensures, c .before .before .before .before .high-prime .ensures .0, imm-ci-is (c .before .before .before .before .before .args .instr)))))

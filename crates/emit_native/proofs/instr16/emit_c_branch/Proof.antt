@@ -4,11 +4,8 @@ use borrow.Author.Needs.{needs}
 use Rattle.emit_native.proofs.instr16.emit_c_branch.Statement.{statement}
 use Rattle.emit_native.proofs.instr16.emit_c_branch.Tie as tie
 
-returns : tie.Need-returns
-unfolding c-branch c-branch-on
-returns c = c .terminate .ensures _ _ _ (rw (c .before .emit2 .ensures, c .before .before .csel-x .ensures, c .before .before .before .c-condition .ensures .0, c .before .before .before .before .mov-imm643 .ensures, c .before .before .before .before .before .wrapping-add-u642 .ensures, c .before .before .before .before .before .before .mov-imm642 .ensures, c .before .before .before .before .before .before .before .wrapping-add-u64 .ensures, c .before .before .before .before .before .before .before .before .imm-cb .ensures, c .before .before .before .before .before .before .before .before .before .emit .ensures, c .before .before .before .before .before .before .before .before .before .before .cmp-x .ensures, c .before .before .before .before .before .before .before .before .before .before .before .mov-imm64 .ensures, c .before .before .before .before .before .before .before .before .before .before .before .before .load .ensures, c .before .before .before .before .before .before .before .before .before .before .before .before .before .high-prime .ensures .0, imm-cb-is (c .before .before .before .before .before .before .before .before .before .before .before .before .before .before .args .instr)))
-
 pub emit-c-branch-spec : {M : Type 1} → statement M
+unfolding c-branch c-branch-on
 emit-c-branch-spec =
     tie.close
     (tie.spec
@@ -26,4 +23,4 @@ emit-c-branch-spec =
     (λ c κs. search needs)
     (λ c κs. search needs)
     (λ c κs. search needs)
-    returns)
+    (λ c. c .terminate .ensures _ _ _ (rw (c .before .emit2 .ensures, c .before .before .csel-x .ensures, c .before .before .before .c-condition .ensures .0, c .before .before .before .before .mov-imm643 .ensures, c .before .before .before .before .before .wrapping-add-u642 .ensures, c .before .before .before .before .before .before .mov-imm642 .ensures, c .before .before .before .before .before .before .before .wrapping-add-u64 .ensures, c .before .before .before .before .before .before .before .before .imm-cb .ensures, c .before .before .before .before .before .before .before .before .before .emit .ensures, c .before .before .before .before .before .before .before .before .before .before .cmp-x .ensures, c .before .before .before .before .before .before .before .before .before .before .before .mov-imm64 .ensures, c .before .before .before .before .before .before .before .before .before .before .before .before .load .ensures, c .before .before .before .before .before .before .before .before .before .before .before .before .before .high-prime .ensures .0, imm-cb-is (c .before .before .before .before .before .before .before .before .before .before .before .before .before .before .args .instr)))))

@@ -3,11 +3,8 @@ use borrow.Author.Needs.{needs}
 use Rattle.emit_native.proofs.instr16.emit_c_jalr.Statement.{statement}
 use Rattle.emit_native.proofs.instr16.emit_c_jalr.Tie as tie
 
-returns : tie.Need-returns
-unfolding c-jalr
-returns c = c .terminate .ensures _ _ _ (rw (c .before .emit2 .ensures, c .before .before .orr-x .ensures, c .before .before .before .store .ensures, c .before .before .before .before .mov-imm642 .ensures, c .before .before .before .before .before .wrapping-add-u64 .ensures, c .before .before .before .before .before .before .emit .ensures, c .before .before .before .before .before .before .before .and-x .ensures, c .before .before .before .before .before .before .before .before .mov-imm64 .ensures, c .before .before .before .before .before .before .before .before .before .load .ensures))
-
 pub emit-c-jalr-spec : {M : Type 1} → statement M
+unfolding c-jalr
 emit-c-jalr-spec =
     tie.close
     (tie.spec
@@ -21,4 +18,4 @@ emit-c-jalr-spec =
     (λ c κs. search needs)
     (λ c κs. search needs)
     (λ c κs. search needs)
-    returns)
+    (λ c. c .terminate .ensures _ _ _ (rw (c .before .emit2 .ensures, c .before .before .orr-x .ensures, c .before .before .before .store .ensures, c .before .before .before .before .mov-imm642 .ensures, c .before .before .before .before .before .wrapping-add-u64 .ensures, c .before .before .before .before .before .before .emit .ensures, c .before .before .before .before .before .before .before .and-x .ensures, c .before .before .before .before .before .before .before .before .mov-imm64 .ensures, c .before .before .before .before .before .before .before .before .before .load .ensures))))

@@ -5,23 +5,16 @@ use borrow.Author.Needs.{needs}
 use Rattle.emit_native.proofs.instr16.emit_c_jr.Statement.{statement}
 use Rattle.emit_native.proofs.instr16.emit_c_jr.Tie as tie
 
-returns : tie.Need-returns
-unfolding c-jr
-returns c = rw (eq-eqb _ _ (c .before .if1 .taken)) (c .none .ensures _ _ _ refl)
-
-returns-2 : tie.Need-returns-2
-unfolding c-jr
-returns-2 c = rw (ne-eqb _ _ (c .before .before .before .before .before .if1 .left)) (c .terminate .ensures _ _ _ (rw (c .before .emit .ensures, c .before .before .and-x .ensures, c .before .before .before .mov-imm64 .ensures, c .before .before .before .before .load .ensures)))
-
 pub emit-c-jr-spec : {M : Type 1} → statement M
+unfolding c-jr
 emit-c-jr-spec =
     tie.close
     (tie.spec
     (λ c κs. search needs)
-    returns
+    (λ c. rw (eq-eqb _ _ (c .before .if1 .taken)) (c .none .ensures _ _ _ refl))
     (λ c κs. search needs)
     (λ c κs. search needs)
     (λ c κs. search needs)
     (λ c κs. search needs)
     (λ c κs. search needs)
-    returns-2)
+    (λ c. rw (ne-eqb _ _ (c .before .before .before .before .before .if1 .left)) (c .terminate .ensures _ _ _ (rw (c .before .emit .ensures, c .before .before .and-x .ensures, c .before .before .before .mov-imm64 .ensures, c .before .before .before .before .load .ensures)))))

@@ -4,10 +4,7 @@ use borrow.Author.Needs.{needs}
 use Rattle.emit_native.proofs.instr16.emit_c_li.Statement.{statement}
 use Rattle.emit_native.proofs.instr16.emit_c_li.Tie as tie
 
-returns : tie.Need-returns
-unfolding c-li
-returns c = c .go-on .ensures _ _ _ (rw (c .before .mov-reg .ensures, c .before .before .imm-ci .ensures, c .before .before .before .rd-of .ensures .0, imm-ci-is (c .before .before .before .before .args .instr)))
-
 pub emit-c-li-spec : {M : Type 1} → statement M
+unfolding c-li
 emit-c-li-spec =
-    tie.close (tie.spec (λ c κs. search needs) (λ c κs. search needs) (λ c κs. search needs) (λ c κs. search needs) returns)
+    tie.close (tie.spec (λ c κs. search needs) (λ c κs. search needs) (λ c κs. search needs) (λ c κs. search needs) (λ c. c .go-on .ensures _ _ _ (rw (c .before .mov-reg .ensures, c .before .before .imm-ci .ensures, c .before .before .before .rd-of .ensures .0, imm-ci-is (c .before .before .before .before .args .instr)))))

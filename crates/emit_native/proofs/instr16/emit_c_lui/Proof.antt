@@ -6,29 +6,18 @@ use borrow.Author.Needs.{needs}
 use Rattle.emit_native.proofs.instr16.emit_c_lui.Statement.{statement}
 use Rattle.emit_native.proofs.instr16.emit_c_lui.Tie as tie
 
-returns : tie.Need-returns
-unfolding c-lui
-returns c = rw (← c .before .before .rd-of .ensures .0, imm-ci-is (c .before .before .before .args .instr), eq-eqb _ _ (c .before .if1 .taken)) (c .none .ensures _ _ _ refl)
-
-returns-2 : tie.Need-returns-2
-unfolding c-lui
-returns-2 c = rw (← c .before .before .before .before .rd-of .ensures .0, imm-ci-is (c .before .before .before .before .before .args .instr), ← c .before .before .imm-ci .ensures, ne-eqb _ _ (c .before .before .before .if1 .left), eq-eqb _ _ (c .before .if2 .taken)) (c .none2 .ensures _ _ _ refl)
-
-returns-3 : tie.Need-returns-3
-unfolding c-lui
-returns-3 c = rw (← c .before .before .before .before .before .before .rd-of .ensures .0, imm-ci-is (c .before .before .before .before .before .before .before .args .instr), ← c .before .before .before .before .imm-ci .ensures, ne-eqb _ _ (c .before .before .before .before .before .if1 .left), ne-eqb _ _ (c .before .before .before .if2 .left)) (c .go-on .ensures _ _ _ (rw (c .before .store .ensures, c .before .before .mov-imm64 .ensures)))
-
 pub emit-c-lui-spec : {M : Type 1} → statement M
+unfolding c-lui
 emit-c-lui-spec =
     tie.close
     (tie.spec
     (λ c κs. search needs)
     (λ c κs. search needs)
-    returns
+    (λ c. rw (← c .before .before .rd-of .ensures .0, imm-ci-is (c .before .before .before .args .instr), eq-eqb _ _ (c .before .if1 .taken)) (c .none .ensures _ _ _ refl))
     (λ c κs. search needs)
     (λ c κs. search needs)
-    returns-2
+    (λ c. rw (← c .before .before .before .before .rd-of .ensures .0, imm-ci-is (c .before .before .before .before .before .args .instr), ← c .before .before .imm-ci .ensures, ne-eqb _ _ (c .before .before .before .if1 .left), eq-eqb _ _ (c .before .if2 .taken)) (c .none2 .ensures _ _ _ refl))
     (λ c κs. search needs)
     (λ c κs. search needs)
     (λ c κs. search needs)
-    returns-3)
+    (λ c. rw (← c .before .before .before .before .before .before .rd-of .ensures .0, imm-ci-is (c .before .before .before .before .before .before .before .args .instr), ← c .before .before .before .before .imm-ci .ensures, ne-eqb _ _ (c .before .before .before .before .before .if1 .left), ne-eqb _ _ (c .before .before .before .if2 .left)) (c .go-on .ensures _ _ _ (rw (c .before .store .ensures, c .before .before .mov-imm64 .ensures)))))

@@ -6,23 +6,16 @@ use borrow.Author.Needs.{needs}
 use Rattle.emit_native.proofs.instr16.emit_c_slli.Statement.{statement}
 use Rattle.emit_native.proofs.instr16.emit_c_slli.Tie as tie
 
-returns : tie.Need-returns
-unfolding c-slli
-returns c = rw (← c .before .before .rd-of .ensures .0, eq-eqb _ _ (c .before .if1 .taken)) (c .none .ensures _ _ _ refl)
-
-returns-2 : tie.Need-returns-2
-unfolding c-slli
-returns-2 c = rw (← c .before .before .before .before .before .rd-of .ensures .0, ne-eqb _ _ (c .before .before .before .before .if1 .left)) (c .go-on .ensures _ _ _ (rw (c .before .with-imm .ensures, c .before .before .before .lslv-x .ensures, c .before .before .shamt-c .ensures, shamt-is (c .before .before .before .before .before .before .args .instr))))
-
 pub emit-c-slli-spec : {M : Type 1} → statement M
+unfolding c-slli
 emit-c-slli-spec =
     tie.close
     (tie.spec
     (λ c κs. search needs)
     (λ c κs. search needs)
-    returns
+    (λ c. rw (← c .before .before .rd-of .ensures .0, eq-eqb _ _ (c .before .if1 .taken)) (c .none .ensures _ _ _ refl))
     (λ c κs. search needs)
     (λ c κs. search needs)
     (λ c κs. search needs)
     (λ c κs. search needs)
-    returns-2)
+    (λ c. rw (← c .before .before .before .before .before .rd-of .ensures .0, ne-eqb _ _ (c .before .before .before .before .if1 .left)) (c .go-on .ensures _ _ _ (rw (c .before .with-imm .ensures, c .before .before .before .lslv-x .ensures, c .before .before .shamt-c .ensures, shamt-is (c .before .before .before .before .before .before .args .instr))))))

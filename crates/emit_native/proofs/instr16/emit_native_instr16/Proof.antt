@@ -5,23 +5,8 @@ use borrow.Author.Needs.{needs}
 use Rattle.emit_native.proofs.instr16.emit_native_instr16.Statement.{statement}
 use Rattle.emit_native.proofs.instr16.emit_native_instr16.Tie as tie
 
-returns : tie.Need-returns
-unfolding emit-native-instr16
-returns c = rw (c .before .match .keys1) (c .emit-quadrant-0 .ensures)
-
-returns-2 : tie.Need-returns-2
-unfolding emit-native-instr16
-returns-2 c = rw (c .before .match .keys2) (c .emit-quadrant-1 .ensures)
-
-returns-3 : tie.Need-returns-3
-unfolding emit-native-instr16
-returns-3 c = rw (c .before .match .keys3) (c .emit-quadrant-2 .ensures)
-
-returns-4 : tie.Need-returns-4
-unfolding emit-native-instr16
-returns-4 c = rw (ne-eqb _ _ (c .before .match .rest .0 .0 .1), ne-eqb _ _ (c .before .match .rest .0 .1), ne-eqb _ _ (c .before .match .rest .1)) (c .none .ensures _ _ _ refl)
-
 pub emit-native-instr16-spec : {M : Type 1} → statement M
+unfolding emit-native-instr16
 emit-native-instr16-spec =
     tie.close
     (tie.spec
@@ -29,7 +14,7 @@ emit-native-instr16-spec =
     (λ c κs. search needs)
     (λ c κs. search needs)
     (λ c κs. search needs)
-    returns
-    returns-2
-    returns-3
-    returns-4)
+    (λ c. rw (c .before .match .keys1) (c .emit-quadrant-0 .ensures))
+    (λ c. rw (c .before .match .keys2) (c .emit-quadrant-1 .ensures))
+    (λ c. rw (c .before .match .keys3) (c .emit-quadrant-2 .ensures))
+    (λ c. rw (ne-eqb _ _ (c .before .match .rest .0 .0 .1), ne-eqb _ _ (c .before .match .rest .0 .1), ne-eqb _ _ (c .before .match .rest .1)) (c .none .ensures _ _ _ refl)))

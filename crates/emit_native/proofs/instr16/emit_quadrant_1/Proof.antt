@@ -14,30 +14,6 @@ use Rattle.emit_native.proofs.instr16.emit_quadrant_1.Tie as tie
 either : (x : ℕ) (a b : Emission) → 6 ≤ x → x < 8 → cond (eqb x 0b110) a (cond (eqb x 0b111) a b) ≡ a
 either x a b l h = by (eqb x 0b110) (λ t. rw t refl) (λ t. rw (t, eq-eqb x 0b111 (omega (arith, eqb-false x 0b110 t))) refl)
 
-returns : tie.Need-returns
-unfolding quadrant-1
-returns c = rw (c .before .match .keys1) (c .emit-c-addi .ensures)
-
-returns-2 : tie.Need-returns-2
-unfolding quadrant-1
-returns-2 c = rw (c .before .match .keys2) (c .emit-c-addiw .ensures)
-
-returns-3 : tie.Need-returns-3
-unfolding quadrant-1
-returns-3 c = rw (c .before .match .keys3) (c .emit-c-li .ensures)
-
-returns-4 : tie.Need-returns-4
-unfolding quadrant-1
-returns-4 c = rw (c .before .match .keys4) (c .emit-c-sp-or-lui .ensures)
-
-returns-5 : tie.Need-returns-5
-unfolding quadrant-1
-returns-5 c = rw (c .before .match .keys5) (c .emit-c-group .ensures)
-
-returns-6 : tie.Need-returns-6
-unfolding quadrant-1
-returns-6 c = rw (c .before .match .keys6) (c .emit-c-j .ensures)
-
 returns-7 : tie.Need-returns-7
 unfolding quadrant-1
 returns-7 c =
@@ -45,11 +21,8 @@ returns-7 c =
     let l : 6 ≤ x = omega (arith, c .before .before .match .rest .0 .0 .0 .0 .0 .1, c .before .before .match .rest .0 .0 .0 .0 .1, c .before .before .match .rest .0 .0 .0 .1, c .before .before .match .rest .0 .0 .1, c .before .before .match .rest .0 .1, c .before .before .match .rest .1) in
     rw (ne-eqb _ _ (c .before .before .match .rest .0 .0 .0 .0 .0 .1), ne-eqb _ _ (c .before .before .match .rest .0 .0 .0 .0 .1), ne-eqb _ _ (c .before .before .match .rest .0 .0 .0 .1), ne-eqb _ _ (c .before .before .match .rest .0 .0 .1), ne-eqb _ _ (c .before .before .match .rest .0 .1), ne-eqb _ _ (c .before .before .match .rest .1), either x _ _ l (c .before .if1 .taken)) (c .emit-c-branch .ensures)
 
-returns-8 : tie.Need-returns-8
-unfolding quadrant-1
-returns-8 c = absurd (omega (arith, c .before .if1 .left))
-
 pub emit-quadrant-1-spec : {M : Type 1} → statement M
+unfolding quadrant-1
 emit-quadrant-1-spec =
     tie.close
     (tie.spec
@@ -61,11 +34,11 @@ emit-quadrant-1-spec =
     (λ c κs. search needs)
     (λ c κs. search needs)
     (λ c κs. search needs)
-    returns
-    returns-2
-    returns-3
-    returns-4
-    returns-5
-    returns-6
+    (λ c. rw (c .before .match .keys1) (c .emit-c-addi .ensures))
+    (λ c. rw (c .before .match .keys2) (c .emit-c-addiw .ensures))
+    (λ c. rw (c .before .match .keys3) (c .emit-c-li .ensures))
+    (λ c. rw (c .before .match .keys4) (c .emit-c-sp-or-lui .ensures))
+    (λ c. rw (c .before .match .keys5) (c .emit-c-group .ensures))
+    (λ c. rw (c .before .match .keys6) (c .emit-c-j .ensures))
     returns-7
-    returns-8)
+    (λ c. absurd (omega (arith, c .before .if1 .left))))

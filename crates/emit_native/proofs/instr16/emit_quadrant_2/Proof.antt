@@ -5,25 +5,14 @@ use borrow.Author.Needs.{needs}
 use Rattle.emit_native.proofs.instr16.emit_quadrant_2.Statement.{statement}
 use Rattle.emit_native.proofs.instr16.emit_quadrant_2.Tie as tie
 
-returns : tie.Need-returns
-unfolding quadrant-2
-returns c = rw (c .before .match .keys1) (c .emit-c-slli .ensures)
-
-returns-2 : tie.Need-returns-2
-unfolding quadrant-2
-returns-2 c = rw (c .before .match .keys2) (c .emit-c-jump-move-add .ensures)
-
-returns-3 : tie.Need-returns-3
-unfolding quadrant-2
-returns-3 c = rw (ne-eqb _ _ (c .before .match .rest .0 .1), ne-eqb _ _ (c .before .match .rest .1)) (c .none .ensures _ _ _ refl)
-
 pub emit-quadrant-2-spec : {M : Type 1} → statement M
+unfolding quadrant-2
 emit-quadrant-2-spec =
     tie.close
     (tie.spec
     (λ c κs. search needs)
     (λ c κs. search needs)
     (λ c κs. search needs)
-    returns
-    returns-2
-    returns-3)
+    (λ c. rw (c .before .match .keys1) (c .emit-c-slli .ensures))
+    (λ c. rw (c .before .match .keys2) (c .emit-c-jump-move-add .ensures))
+    (λ c. rw (ne-eqb _ _ (c .before .match .rest .0 .1), ne-eqb _ _ (c .before .match .rest .1)) (c .none .ensures _ _ _ refl)))

@@ -4,11 +4,8 @@ use borrow.Author.Needs.{needs}
 use Rattle.emit_native.proofs.instr32.emit_auipc.Statement.{statement}
 use Rattle.emit_native.proofs.instr32.emit_auipc.Tie as tie
 
-returns : tie.Need-returns
-unfolding auipc
-returns c = c .go-on .ensures _ _ _ (rw (c .before .mov-reg .ensures, c .before .before .wrapping-add-u64 .ensures, c .before .before .before .imm-u .ensures, imm-u-is (c .before .before .before .before .args .instr) (c .before .before .before .before .fits .instr .fits)))
-
 pub emit-auipc-spec : {M : Type 1} → statement M
+unfolding auipc
 emit-auipc-spec =
     tie.close
-    (tie.spec (λ c κs. search needs) (λ c κs. search needs) (λ c κs. search needs) (λ c κs. search needs) returns)
+    (tie.spec (λ c κs. search needs) (λ c κs. search needs) (λ c κs. search needs) (λ c κs. search needs) (λ c. c .go-on .ensures _ _ _ (rw (c .before .mov-reg .ensures, c .before .before .wrapping-add-u64 .ensures, c .before .before .before .imm-u .ensures, imm-u-is (c .before .before .before .before .args .instr) (c .before .before .before .before .fits .instr .fits)))))

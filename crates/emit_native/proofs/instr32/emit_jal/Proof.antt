@@ -6,11 +6,8 @@ use borrow.Author.Needs.{needs}
 use Rattle.emit_native.proofs.instr32.emit_jal.Statement.{statement}
 use Rattle.emit_native.proofs.instr32.emit_jal.Tie as tie
 
-returns : tie.Need-returns
-unfolding jal
-returns c = c .terminate .ensures _ _ _ (rw (c .before .mov-imm64 .ensures, c .before .before .wrapping-add-u642 .ensures, c .before .before .before .imm-j .ensures, c .before .before .before .before .mov-reg .ensures, c .before .before .before .before .before .wrapping-add-u64 .ensures, imm-j-is (c .before .before .before .before .before .before .args .instr) (c .before .before .before .before .before .before .fits .instr .fits), map-append, emitted-all-append))
-
 pub emit-jal-spec : {M : Type 1} → statement M
+unfolding jal
 emit-jal-spec =
     tie.close
     (tie.spec
@@ -20,4 +17,4 @@ emit-jal-spec =
     (λ c κs. search needs)
     (λ c κs. search needs)
     (λ c κs. search needs)
-    returns)
+    (λ c. c .terminate .ensures _ _ _ (rw (c .before .mov-imm64 .ensures, c .before .before .wrapping-add-u642 .ensures, c .before .before .before .imm-j .ensures, c .before .before .before .before .mov-reg .ensures, c .before .before .before .before .before .wrapping-add-u64 .ensures, imm-j-is (c .before .before .before .before .before .before .args .instr) (c .before .before .before .before .before .before .fits .instr .fits), map-append, emitted-all-append))))

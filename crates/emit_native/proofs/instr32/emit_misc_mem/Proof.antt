@@ -5,19 +5,8 @@ use borrow.Author.Needs.{needs}
 use Rattle.emit_native.proofs.instr32.emit_misc_mem.Statement.{statement}
 use Rattle.emit_native.proofs.instr32.emit_misc_mem.Tie as tie
 
-returns : tie.Need-returns
-unfolding misc-mem
-returns c = rw (c .before .match .keys1) (c .go-on .ensures _ _ _ refl)
-
-returns-2 : tie.Need-returns-2
-unfolding misc-mem
-returns-2 c = rw (c .before .match .keys2) (c .go-on2 .ensures _ _ _ refl)
-
-returns-3 : tie.Need-returns-3
-unfolding misc-mem
-returns-3 c = rw (ne-eqb _ _ (c .before .match .rest .0 .1), ne-eqb _ _ (c .before .match .rest .1)) (c .none .ensures _ _ _ refl)
-
 pub emit-misc-mem-spec : {M : Type 1} → statement M
+unfolding misc-mem
 emit-misc-mem-spec =
     tie.close
-    (tie.spec (λ c. search needs) (λ c κs. search needs) (λ c κs. search needs) (λ c κs. search needs) returns returns-2 returns-3)
+    (tie.spec (λ c. search needs) (λ c κs. search needs) (λ c κs. search needs) (λ c κs. search needs) (λ c. rw (c .before .match .keys1) (c .go-on .ensures _ _ _ refl)) (λ c. rw (c .before .match .keys2) (c .go-on2 .ensures _ _ _ refl)) (λ c. rw (ne-eqb _ _ (c .before .match .rest .0 .1), ne-eqb _ _ (c .before .match .rest .1)) (c .none .ensures _ _ _ refl)))

@@ -2,9 +2,6 @@ use borrow.Author.Needs.{needs}
 use Rattle.emit_native.proofs.op.emit_compared.Statement.{statement}
 use Rattle.emit_native.proofs.op.emit_compared.Tie as tie
 
-returns : tie.Need-returns
-returns c = rw (c .emit2 .ensures, c .before .csel-x .ensures, c .before .before .mov-imm642 .ensures, c .before .before .before .mov-imm64 .ensures, c .before .before .before .before .emit .ensures, c .before .before .before .before .before .cmp-x .ensures)
-
 pub emit-compared-spec : {M : Type 1} → statement M
 emit-compared-spec =
     tie.close
@@ -15,4 +12,4 @@ emit-compared-spec =
     (λ c κs. search needs)
     (λ c κs. search needs)
     (λ c κs. search needs)
-    returns)
+    (λ c. rw (c .emit2 .ensures, c .before .csel-x .ensures, c .before .before .mov-imm642 .ensures, c .before .before .before .mov-imm64 .ensures, c .before .before .before .before .emit .ensures, c .before .before .before .before .before .cmp-x .ensures)))

@@ -2,9 +2,6 @@ use borrow.Author.Needs.{needs}
 use Rattle.emit_native.proofs.op.emit_is_value.Statement.{statement}
 use Rattle.emit_native.proofs.op.emit_is_value.Tie as tie
 
-returns : tie.Need-returns
-returns c = rw (c .emit2 .ensures, c .before .csel-x .ensures, c .before .before .mov-imm643 .ensures, c .before .before .before .mov-imm642 .ensures, c .before .before .before .before .emit .ensures, c .before .before .before .before .before .cmp-x .ensures, c .before .before .before .before .before .before .mov-imm64 .ensures)
-
 pub emit-is-value-spec : {M : Type 1} → statement M
 emit-is-value-spec =
     tie.close
@@ -16,4 +13,4 @@ emit-is-value-spec =
     (λ c κs. search needs)
     (λ c κs. search needs)
     (λ c κs. search needs)
-    returns)
+    (λ c. rw (c .emit2 .ensures, c .before .csel-x .ensures, c .before .before .mov-imm643 .ensures, c .before .before .before .mov-imm642 .ensures, c .before .before .before .before .emit .ensures, c .before .before .before .before .before .cmp-x .ensures, c .before .before .before .before .before .before .mov-imm64 .ensures)))

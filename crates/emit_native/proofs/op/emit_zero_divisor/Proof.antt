@@ -2,9 +2,6 @@ use borrow.Author.Needs.{needs}
 use Rattle.emit_native.proofs.op.emit_zero_divisor.Statement.{statement}
 use Rattle.emit_native.proofs.op.emit_zero_divisor.Tie as tie
 
-returns : tie.Need-returns
-returns c = rw (c .emit2 .ensures, c .before .csel-x .ensures, c .before .before .mov-imm642 .ensures, c .before .before .before .emit .ensures, c .before .before .before .before .cmp-x .ensures, c .before .before .before .before .before .mov-imm64 .ensures)
-
 pub emit-zero-divisor-spec : {M : Type 1} → statement M
 emit-zero-divisor-spec =
     tie.close
@@ -15,4 +12,4 @@ emit-zero-divisor-spec =
     (λ c κs. search needs)
     (λ c κs. search needs)
     (λ c κs. search needs)
-    returns)
+    (λ c. rw (c .emit2 .ensures, c .before .csel-x .ensures, c .before .before .mov-imm642 .ensures, c .before .before .before .emit .ensures, c .before .before .before .before .cmp-x .ensures, c .before .before .before .before .before .mov-imm64 .ensures)))

@@ -5,31 +5,8 @@ use borrow.Author.Needs.{needs}
 use Rattle.emit_native.proofs.op_32.emit_op_32_muldiv.Statement.{statement}
 use Rattle.emit_native.proofs.op_32.emit_op_32_muldiv.Tie as tie
 
-returns : tie.Need-returns
-unfolding op-32-arm
-returns c = λ slot-offset. rw (c .before .before .before .before .match .keys1) (c .go-on .ensures _ _ _ (rw (c .before .emit-sxtw .ensures, c .before .before .emit .ensures, c .before .before .before .mul-x .ensures)))
-
-returns-2 : tie.Need-returns-2
-unfolding op-32-arm
-returns-2 c = λ slot-offset. rw (c .before .before .before .before .before .before .match .keys2) (c .go-on2 .ensures _ _ _ (rw (c .before .emit-sxtw2 .ensures, c .before .before .emit-zero-divisor .ensures, c .before .before .before .emit2 .ensures, c .before .before .before .before .sdiv-x .ensures, c .before .before .before .before .before .emit-sign-extended .ensures)))
-
-returns-3 : tie.Need-returns-3
-unfolding op-32-arm
-returns-3 c = λ slot-offset. rw (c .before .before .before .before .before .before .match .keys3) (c .go-on3 .ensures _ _ _ (rw (c .before .emit-sxtw3 .ensures, c .before .before .emit-zero-divisor2 .ensures, c .before .before .before .emit3 .ensures, c .before .before .before .before .udiv-x .ensures, c .before .before .before .before .before .emit-zero-extended .ensures)))
-
-returns-4 : tie.Need-returns-4
-unfolding op-32-arm
-returns-4 c = λ slot-offset. rw (c .before .before .before .before .before .match .keys4) (c .go-on4 .ensures _ _ _ (rw (c .before .emit-sxtw4 .ensures, c .before .before .emit-remainder .ensures, c .before .before .before .sdiv-x2 .ensures, c .before .before .before .before .emit-sign-extended2 .ensures)))
-
-returns-5 : tie.Need-returns-5
-unfolding op-32-arm
-returns-5 c = λ slot-offset. rw (c .before .before .before .before .before .match .keys5) (c .go-on5 .ensures _ _ _ (rw (c .before .emit-sxtw5 .ensures, c .before .before .emit-remainder2 .ensures, c .before .before .before .udiv-x2 .ensures, c .before .before .before .before .emit-zero-extended2 .ensures)))
-
-returns-6 : tie.Need-returns-6
-unfolding op-32-arm
-returns-6 c = λ slot-offset. rw (ne-eqb _ _ (c .before .match .rest .0 .0 .0 .0 .1), ne-eqb _ _ (c .before .match .rest .0 .0 .0 .1), ne-eqb _ _ (c .before .match .rest .0 .0 .1), ne-eqb _ _ (c .before .match .rest .0 .1), ne-eqb _ _ (c .before .match .rest .1)) (c .none .ensures _ _ _ refl)
-
 pub emit-op-32-muldiv-spec : {M : Type 1} → statement M
+unfolding op-32-arm
 emit-op-32-muldiv-spec =
     tie.close
     (tie.spec
@@ -60,9 +37,9 @@ emit-op-32-muldiv-spec =
     (λ c κs. search needs)
     (λ c κs. search needs)
     (λ c κs. search needs)
-    returns
-    returns-2
-    returns-3
-    returns-4
-    returns-5
-    returns-6)
+    (λ c slot-offset. rw (c .before .before .before .before .match .keys1) (c .go-on .ensures _ _ _ (rw (c .before .emit-sxtw .ensures, c .before .before .emit .ensures, c .before .before .before .mul-x .ensures))))
+    (λ c slot-offset. rw (c .before .before .before .before .before .before .match .keys2) (c .go-on2 .ensures _ _ _ (rw (c .before .emit-sxtw2 .ensures, c .before .before .emit-zero-divisor .ensures, c .before .before .before .emit2 .ensures, c .before .before .before .before .sdiv-x .ensures, c .before .before .before .before .before .emit-sign-extended .ensures))))
+    (λ c slot-offset. rw (c .before .before .before .before .before .before .match .keys3) (c .go-on3 .ensures _ _ _ (rw (c .before .emit-sxtw3 .ensures, c .before .before .emit-zero-divisor2 .ensures, c .before .before .before .emit3 .ensures, c .before .before .before .before .udiv-x .ensures, c .before .before .before .before .before .emit-zero-extended .ensures))))
+    (λ c slot-offset. rw (c .before .before .before .before .before .match .keys4) (c .go-on4 .ensures _ _ _ (rw (c .before .emit-sxtw4 .ensures, c .before .before .emit-remainder .ensures, c .before .before .before .sdiv-x2 .ensures, c .before .before .before .before .emit-sign-extended2 .ensures))))
+    (λ c slot-offset. rw (c .before .before .before .before .before .match .keys5) (c .go-on5 .ensures _ _ _ (rw (c .before .emit-sxtw5 .ensures, c .before .before .emit-remainder2 .ensures, c .before .before .before .udiv-x2 .ensures, c .before .before .before .before .emit-zero-extended2 .ensures))))
+    (λ c slot-offset. rw (ne-eqb _ _ (c .before .match .rest .0 .0 .0 .0 .1), ne-eqb _ _ (c .before .match .rest .0 .0 .0 .1), ne-eqb _ _ (c .before .match .rest .0 .0 .1), ne-eqb _ _ (c .before .match .rest .0 .1), ne-eqb _ _ (c .before .match .rest .1)) (c .none .ensures _ _ _ refl)))

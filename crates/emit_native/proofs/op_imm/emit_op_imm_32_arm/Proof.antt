@@ -5,27 +5,8 @@ use borrow.Author.Needs.{needs}
 use Rattle.emit_native.proofs.op_imm.emit_op_imm_32_arm.Statement.{statement}
 use Rattle.emit_native.proofs.op_imm.emit_op_imm_32_arm.Tie as tie
 
-returns : tie.Need-returns
-unfolding op-imm-32-arm
-returns c = λ slot-offset. rw (c .before .before .before .before .before .before .match .keys2, eq-eqb _ _ (c .before .before .before .before .before .if1 .taken)) (c .go-on2 .ensures _ _ _ (rw (c .before .emit-sxtw2 .ensures, c .before .before .emit2 .ensures, c .before .before .before .lslv-x .ensures, c .before .before .before .before .mov-imm642 .ensures)))
-
-returns-2 : tie.Need-returns-2
-unfolding op-imm-32-arm
-returns-2 c = λ slot-offset. rw (c .before .before .before .before .before .match .keys1) (c .go-on .ensures _ _ _ (rw (c .before .emit-sxtw .ensures, c .before .before .emit .ensures, c .before .before .before .add-x .ensures, c .before .before .before .before .mov-imm64 .ensures)))
-
-returns-3 : tie.Need-returns-3
-unfolding op-imm-32-arm
-returns-3 c = λ slot-offset. rw (c .before .before .match .keys2, ne-eqb _ _ (c .before .if1 .left)) (c .none .ensures _ _ _ refl)
-
-returns-4 : tie.Need-returns-4
-unfolding op-imm-32-arm
-returns-4 c = λ slot-offset. rw (c .before .match .keys3) (c .emit-op-imm-32-right .ensures slot-offset)
-
-returns-5 : tie.Need-returns-5
-unfolding op-imm-32-arm
-returns-5 c = λ slot-offset. rw (ne-eqb _ _ (c .before .match .rest .0 .0 .1), ne-eqb _ _ (c .before .match .rest .0 .1), ne-eqb _ _ (c .before .match .rest .1)) (c .none2 .ensures _ _ _ refl)
-
 pub emit-op-imm-32-arm-spec : {M : Type 1} → statement M
+unfolding op-imm-32-arm
 emit-op-imm-32-arm-spec =
     tie.close
     (tie.spec
@@ -40,11 +21,11 @@ emit-op-imm-32-arm-spec =
     (λ c κs. search needs)
     (λ c κs. search needs)
     (λ c κs. search needs)
-    returns
+    (λ c slot-offset. rw (c .before .before .before .before .before .before .match .keys2, eq-eqb _ _ (c .before .before .before .before .before .if1 .taken)) (c .go-on2 .ensures _ _ _ (rw (c .before .emit-sxtw2 .ensures, c .before .before .emit2 .ensures, c .before .before .before .lslv-x .ensures, c .before .before .before .before .mov-imm642 .ensures))))
     (λ c κs. search needs)
     (λ c κs. search needs)
     (λ c κs. search needs)
-    returns-2
-    returns-3
-    returns-4
-    returns-5)
+    (λ c slot-offset. rw (c .before .before .before .before .before .match .keys1) (c .go-on .ensures _ _ _ (rw (c .before .emit-sxtw .ensures, c .before .before .emit .ensures, c .before .before .before .add-x .ensures, c .before .before .before .before .mov-imm64 .ensures))))
+    (λ c slot-offset. rw (c .before .before .match .keys2, ne-eqb _ _ (c .before .if1 .left)) (c .none .ensures _ _ _ refl))
+    (λ c slot-offset. rw (c .before .match .keys3) (c .emit-op-imm-32-right .ensures slot-offset))
+    (λ c slot-offset. rw (ne-eqb _ _ (c .before .match .rest .0 .0 .1), ne-eqb _ _ (c .before .match .rest .0 .1), ne-eqb _ _ (c .before .match .rest .1)) (c .none2 .ensures _ _ _ refl)))

@@ -4,19 +4,8 @@ use borrow.Author.Needs.{needs}
 use Rattle.emit_native.proofs.op_imm.emit_op_imm_right.Statement.{statement}
 use Rattle.emit_native.proofs.op_imm.emit_op_imm_right.Tie as tie
 
-returns : tie.Need-returns
-unfolding op-imm-arm
-returns c = λ slot-offset. rw (c .before .before .before .match .keys1) (c .go-on .ensures _ _ _ (rw (c .before .emit .ensures, c .before .before .lsrv-x .ensures, c .before .before .before .before .mov-imm64 .ensures)))
-
-returns-2 : tie.Need-returns-2
-unfolding op-imm-arm
-returns-2 c = λ slot-offset. rw (c .before .before .before .match .keys2) (c .go-on2 .ensures _ _ _ (rw (c .before .emit2 .ensures, c .before .before .asrv-x .ensures, c .before .before .before .before .mov-imm64 .ensures)))
-
-returns-3 : tie.Need-returns-3
-unfolding op-imm-arm
-returns-3 c = λ slot-offset. rw (ne-eqb _ _ (c .before .match .rest .0 .1), ne-eqb _ _ (c .before .match .rest .1)) (c .none .ensures _ _ _ (rw (c .before .before .mov-imm64 .ensures)))
-
 pub emit-op-imm-right-spec : {M : Type 1} → statement M
+unfolding op-imm-arm
 emit-op-imm-right-spec =
     tie.close
     (tie.spec
@@ -29,6 +18,6 @@ emit-op-imm-right-spec =
     (λ c κs. search needs)
     (λ c κs. search needs)
     (λ c κs. search needs)
-    returns
-    returns-2
-    returns-3)
+    (λ c slot-offset. rw (c .before .before .before .match .keys1) (c .go-on .ensures _ _ _ (rw (c .before .emit .ensures, c .before .before .lsrv-x .ensures, c .before .before .before .before .mov-imm64 .ensures))))
+    (λ c slot-offset. rw (c .before .before .before .match .keys2) (c .go-on2 .ensures _ _ _ (rw (c .before .emit2 .ensures, c .before .before .asrv-x .ensures, c .before .before .before .before .mov-imm64 .ensures))))
+    (λ c slot-offset. rw (ne-eqb _ _ (c .before .match .rest .0 .1), ne-eqb _ _ (c .before .match .rest .1)) (c .none .ensures _ _ _ (rw (c .before .before .mov-imm64 .ensures)))))

@@ -3,9 +3,6 @@ use borrow.Author.Needs.{needs}
 use Rattle.emit_native.proofs.term_helper.emit_load.Statement.{statement}
 use Rattle.emit_native.proofs.term_helper.emit_load.Tie as tie
 
-returns : tie.Need-returns
-returns c = c .terminate .ensures _ _ _ (rw (c .before .emit-call .ensures (c .before .before .before .before .before .before .before .before .before .before .before .before .before .before .before .args .host .«slot_offset»), c .before .before .mov-imm645 .ensures, c .before .before .before .emit2 .ensures, c .before .before .before .before .mov-x .ensures, c .before .before .before .before .before .mov-imm644 .ensures, c .before .before .before .before .before .before .mov-imm643 .ensures, c .before .before .before .before .before .before .before .before .mov-imm642 .ensures, c .before .before .before .before .before .before .before .before .before .emit-pointers .ensures, c .before .before .before .before .before .before .before .before .before .before .emit .ensures, c .before .before .before .before .before .before .before .before .before .before .before .add-x .ensures, c .before .before .before .before .before .before .before .before .before .before .before .before .mov-imm64 .ensures, c .before .before .before .before .before .before .before .before .before .before .before .before .before .imm-i .ensures, c .before .before .before .before .before .before .before .before .before .before .before .before .before .before .load .ensures, imm-i-is (c .before .before .before .before .before .before .before .before .before .before .before .before .before .before .before .args .instr) (c .before .before .before .before .before .before .before .before .before .before .before .before .before .before .before .fits .instr .fits)))
-
 pub emit-load-spec : {M : Type 1} → statement M
 emit-load-spec =
     tie.close
@@ -25,4 +22,4 @@ emit-load-spec =
     (λ c κs. search needs)
     (λ c κs. search needs)
     (λ c κs. search needs)
-    returns)
+    (λ c. c .terminate .ensures _ _ _ (rw (c .before .emit-call .ensures (c .before .before .before .before .before .before .before .before .before .before .before .before .before .before .before .args .host .«slot_offset»), c .before .before .mov-imm645 .ensures, c .before .before .before .emit2 .ensures, c .before .before .before .before .mov-x .ensures, c .before .before .before .before .before .mov-imm644 .ensures, c .before .before .before .before .before .before .mov-imm643 .ensures, c .before .before .before .before .before .before .before .before .mov-imm642 .ensures, c .before .before .before .before .before .before .before .before .before .emit-pointers .ensures, c .before .before .before .before .before .before .before .before .before .before .emit .ensures, c .before .before .before .before .before .before .before .before .before .before .before .add-x .ensures, c .before .before .before .before .before .before .before .before .before .before .before .before .mov-imm64 .ensures, c .before .before .before .before .before .before .before .before .before .before .before .before .before .imm-i .ensures, c .before .before .before .before .before .before .before .before .before .before .before .before .before .before .load .ensures, imm-i-is (c .before .before .before .before .before .before .before .before .before .before .before .before .before .before .before .args .instr) (c .before .before .before .before .before .before .before .before .before .before .before .before .before .before .before .fits .instr .fits)))))

@@ -3,9 +3,6 @@ use borrow.Author.Needs.{needs}
 use Rattle.emit_native.proofs.term_helper.emit_store.Statement.{statement}
 use Rattle.emit_native.proofs.term_helper.emit_store.Tie as tie
 
-returns : tie.Need-returns
-returns c = c .terminate .ensures _ _ _ (rw (c .before .emit-call .ensures (c .before .before .before .before .before .before .before .before .before .before .before .before .before .before .before .before .before .args .host .«slot_offset»), c .before .before .mov-imm644 .ensures, c .before .before .before .emit3 .ensures, c .before .before .before .before .mov-x2 .ensures, c .before .before .before .before .before .emit2 .ensures, c .before .before .before .before .before .before .mov-x .ensures, c .before .before .before .before .before .before .before .mov-imm643 .ensures, c .before .before .before .before .before .before .before .before .before .mov-imm642 .ensures, c .before .before .before .before .before .before .before .before .before .before .emit-pointers .ensures, c .before .before .before .before .before .before .before .before .before .before .before .load2 .ensures, c .before .before .before .before .before .before .before .before .before .before .before .before .emit .ensures, c .before .before .before .before .before .before .before .before .before .before .before .before .before .add-x .ensures, c .before .before .before .before .before .before .before .before .before .before .before .before .before .before .mov-imm64 .ensures, c .before .before .before .before .before .before .before .before .before .before .before .before .before .before .before .imm-s .ensures, c .before .before .before .before .before .before .before .before .before .before .before .before .before .before .before .before .load .ensures, imm-s-is (c .before .before .before .before .before .before .before .before .before .before .before .before .before .before .before .before .before .args .instr) (c .before .before .before .before .before .before .before .before .before .before .before .before .before .before .before .before .before .fits .instr .fits)))
-
 pub emit-store-spec : {M : Type 1} → statement M
 emit-store-spec =
     tie.close
@@ -27,4 +24,4 @@ emit-store-spec =
     (λ c κs. search needs)
     (λ c κs. search needs)
     (λ c κs. search needs)
-    returns)
+    (λ c. c .terminate .ensures _ _ _ (rw (c .before .emit-call .ensures (c .before .before .before .before .before .before .before .before .before .before .before .before .before .before .before .before .before .args .host .«slot_offset»), c .before .before .mov-imm644 .ensures, c .before .before .before .emit3 .ensures, c .before .before .before .before .mov-x2 .ensures, c .before .before .before .before .before .emit2 .ensures, c .before .before .before .before .before .before .mov-x .ensures, c .before .before .before .before .before .before .before .mov-imm643 .ensures, c .before .before .before .before .before .before .before .before .before .mov-imm642 .ensures, c .before .before .before .before .before .before .before .before .before .before .emit-pointers .ensures, c .before .before .before .before .before .before .before .before .before .before .before .load2 .ensures, c .before .before .before .before .before .before .before .before .before .before .before .before .emit .ensures, c .before .before .before .before .before .before .before .before .before .before .before .before .before .add-x .ensures, c .before .before .before .before .before .before .before .before .before .before .before .before .before .before .mov-imm64 .ensures, c .before .before .before .before .before .before .before .before .before .before .before .before .before .before .before .imm-s .ensures, c .before .before .before .before .before .before .before .before .before .before .before .before .before .before .before .before .load .ensures, imm-s-is (c .before .before .before .before .before .before .before .before .before .before .before .before .before .before .before .before .before .args .instr) (c .before .before .before .before .before .before .before .before .before .before .before .before .before .before .before .before .before .fits .instr .fits)))))
