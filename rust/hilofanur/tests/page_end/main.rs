@@ -9,11 +9,13 @@ use hilofanur::boundary::{A64RunAnswer, PlaceAnswer, Rv64RunAnswer, TranslateAns
 use hilofanur::{Guest, Host, Registers};
 use std::os::unix::process::ExitStatusExt;
 use std::process::Command;
-use steppers::records::{a64_cases, rv64_cases, Reader};
+use steppers::records::{a64_cases, rv64_cases, rv64_rules, Reader};
+use steppers::Rv64Answer;
 
 const BLOCKS: &[u8] = include_bytes!("../../../../crates/blocks_replay/data/blocks.bin");
 const PLACE: &[u8] = include_bytes!("../../../../crates/place_replay/data/place.bin");
 const RV64: &[u8] = include_bytes!("../../../../crates/rv64_replay/data/rv64.bin");
+const RV64_RULES: &[u8] = include_bytes!("../../../../crates/rv64_replay/data/rv64_rules.bin");
 const A64: &[u8] = include_bytes!("../../../../crates/a64_replay/data/a64.bin");
 const A64_RULES: &[u8] = include_bytes!("../../../../crates/a64_replay/data/a64_rules.bin");
 const EDGES: [Edge; 2] = [Edge::End, Edge::Start];
@@ -100,17 +102,18 @@ fn places() {
 
 #[test]
 fn rv64_runs() {
-    let cases = rv64_cases(RV64);
-    assert!(cases.len() >= 20_000);
+    let mut cases = rv64_cases(RV64);
+    cases.extend(rv64_rules(RV64_RULES));
+    assert!(cases.len() >= 20_600);
     for case in cases {
         for edge in EDGES {
             let bytes = Guarded::read_only(&case.guest, edge);
-            let guest =
-                Guest { bytes: &bytes, pc: case.pc, limit: case.limit, ignore_ebreak: false };
+            let (pc, limit, ignore_ebreak) = (case.pc, case.limit, case.ignore_ebreak);
+            let guest = Guest { bytes: &bytes, pc, limit, ignore_ebreak };
             let mut registers = Guarded::new(&Registers { x: case.before }.to_bytes(), edge);
             let answer = rv64_run(&guest, registers.first_chunk_mut().unwrap());
-            let (count, next_pc) = (case.answer.count, case.answer.next_pc);
-            assert_eq!(answer, Rv64RunAnswer { refusal: 0, count, next_pc }, "{guest:x?}");
+            let Rv64Answer { refusal, count, next_pc } = case.answer;
+            assert_eq!(answer, Rv64RunAnswer { refusal, count, next_pc }, "{guest:x?}");
             assert_eq!(*registers, Registers { x: case.after }.to_bytes(), "{guest:x?}");
         }
     }
