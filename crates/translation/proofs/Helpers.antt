@@ -19,7 +19,7 @@ use Rattle.emit_native.specs.TermHelper as TH
 use Rattle.emit_native.specs.declared.EmitFlow.{EmitFlow}
 use Rattle.translation.proofs.Agree32.{digit}
 
-unfoldable helps : Instr → Bool
+unfoldable pub helps : Instr → Bool
 helps (Instr.Op k d a b) = false
 helps (Instr.OpImm k d a c) = false
 helps (Instr.Lui d c) = false

@@ -67,20 +67,20 @@ pub record Does (cs : List Call) (v : Model) (rs : List ℕ) : Type 0 where
 -- ---- agreement of an instruction with an emission
 
 -- goes on to the next instruction
-record Continues (n pc : ℕ) (v : Model) (x : List ℕ) (to : ℕ) (e : Emission) : Type 0 where
+pub record Continues (n pc : ℕ) (v : Model) (x : List ℕ) (to : ℕ) (e : Emission) : Type 0 where
   pub flow : e .flow ≡ EmitFlow.Continue
   pub does : Does (e .calls) v x
   pub stay : T (all-keep true (e .calls))
   pub next : to ≡ add pc n
 
 -- ends the block, with the next PC in X0
-record Terminates (v : Model) (x : List ℕ) (to : ℕ) (e : Emission) : Type 0 where
+pub record Terminates (v : Model) (x : List ℕ) (to : ℕ) (e : Emission) : Type 0 where
   pub flow : e .flow ≡ EmitFlow.Terminate
   pub does : Does (e .calls) v x
   pub next : calls-run (e .calls) v .r 0 ≡ to
 
 -- is not inline, and leaves at most scratch words
-record Leaves (e : Emission) : Type 0 where
+pub record Leaves (e : Emission) : Type 0 where
   pub flow : e .flow ≡ EmitFlow.None
   pub fine : Fine (e .calls)
 
