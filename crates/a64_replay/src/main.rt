@@ -1,8 +1,8 @@
 // Replays what an Arm machine was recorded to do, and document 01's own rules (machines/README.md has the format).
-use a64_run::run;
-use a64_run::run::Answer;
 use a64_exec::state;
 use a64_exec::state::A64State;
+use a64_run::run;
+use a64_run::run::Answer;
 
 // Whether the answer is the recorded one: every register, SP, NZCV, every memory byte, end and steps. `x` is as at entry.
 fn answers(fd: i32, answer: Answer, x: &mut [u64], memory: &[u8], after: &mut [u8]) -> bool {
