@@ -1,13 +1,7 @@
-// The emitters of jit_arm64.rs, ported: one instruction's words.
+// What the emitters of jit_arm64.rs share: their answer, what the host gives, and calls.
 use a64::InstrEmitter;
 
-mod calls;
-pub mod instr16;
-pub mod instr32;
-mod op;
-mod op_32;
-mod op_imm;
-pub mod term_helper;
+pub mod calls;
 
 // What an emitter answers: the block goes on, ends, or the instruction is not inline.
 pub enum EmitFlow {

@@ -21,10 +21,12 @@ use Rattle.isa.specs.Decode.{decode32, c-op, c-funct3, imm-i, imm-s}
 use Rattle.a64.specs.Writers.{add-x, ldr-x, str-x, mov-x, sub-sp-imm, add-sp-imm, blr, ret}
 use Rattle.emit_native.specs.Calls.{Call, emit, mov-imm64, load, rust, call-words, groups, words-in, words, if-not-0, Emission, none}
 use Rattle.emit_native.specs.Parts.{Emits}
-use Rattle.emit_native.specs.Instr16.{emit-native-instr16, quadrant-0, quadrant-2}
-use Rattle.emit_native.specs.Instr32.{emit-native-instr}
-use Rattle.emit_native.specs.TermHelper.{call-helper, call-exec, load-calls, store-calls, load-helper, store-helper, load-op, store-op, opcode-helper, memory-funct3, supports, emit-native-term-helper16, emit-native-term-helper32}
-use Rattle.emit_native.proofs.Size.{size, size-append, size-le, if-size, by, instr-size, instr16-size}
+use Rattle.instr16.specs.Instr16.{emit-native-instr16, quadrant-0, quadrant-2}
+use Rattle.instr32.specs.Instr32.{emit-native-instr}
+use Rattle.term_helper.specs.TermHelper.{call-helper, call-exec, load-calls, store-calls, load-helper, store-helper, load-op, store-op, opcode-helper, memory-funct3, supports, emit-native-term-helper16, emit-native-term-helper32}
+use Rattle.emit_native.proofs.Size.{size, size-append, size-le, if-size, by}
+use Rattle.instr16.proofs.Size.{instr16-size}
+use Rattle.instr32.proofs.Size.{instr-size}
 use Rattle.jit_arm64.specs.Block.{is-32, emit-native, emit-term-helper}
 use Rattle.jit_arm64.specs.Parts.{Compiled}
 

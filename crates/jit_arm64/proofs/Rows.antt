@@ -13,8 +13,8 @@ use Rattle.jit_arm64.specs.Translate as T
 use Rattle.jit_arm64.specs.Block as B
 use Rattle.emit_native.specs.Calls as Calls
 use Rattle.isa.specs.Decode as Rust
-use Rattle.emit_native.specs.Instr16 as I16
-use Rattle.emit_native.specs.TermHelper as TH
+use Rattle.instr16.specs.Instr16 as I16
+use Rattle.term_helper.specs.TermHelper as TH
 
 host : Host
 host = record { «slot_offset» = 0; «memory_helper» = 0x10000; helper32 = 0x20000; helper16 = 0x30000; «ignore_ebreak» = false }

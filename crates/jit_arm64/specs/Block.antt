@@ -16,9 +16,9 @@ use Rattle.a64.specs.Writers.{ret}
 use Rattle.a64.specs.Emitter.{bytes}
 use Rattle.emit_native.specs.Calls.{Call, emit, mov-imm64, words, Emission}
 use Rattle.isa.specs.Decode.{decode32}
-use Rattle.emit_native.specs.Instr16.{emit-native-instr16}
-use Rattle.emit_native.specs.Instr32.{emit-native-instr}
-use Rattle.emit_native.specs.TermHelper.{emit-native-term-helper16, emit-native-term-helper32}
+use Rattle.instr16.specs.Instr16.{emit-native-instr16}
+use Rattle.instr32.specs.Instr32.{emit-native-instr}
+use Rattle.term_helper.specs.TermHelper.{emit-native-term-helper16, emit-native-term-helper32}
 
 -- ---- fetching: the guest bytes hold the halfword at index i where two bytes are left there; i is the PC less the start PC
 

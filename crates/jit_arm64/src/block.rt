@@ -13,9 +13,6 @@ use a64::InstrEmitter;
 use emit_native::EmitFlow;
 use emit_native::Emitted;
 use emit_native::Host;
-use emit_native::instr16;
-use emit_native::instr32;
-use emit_native::term_helper;
 use rules::MAX_INSTRS;
 use rules::refusals;
 

@@ -23,7 +23,7 @@ use Rattle.emit_native.specs.Hart.{not-1}
 use Rattle.a64.specs.Writers.{and-x, orr-x}
 use Rattle.emit_native.specs.Calls.{emit, mov-imm64, load, store, Emission, continue, terminate, none, calls-first, store-rd}
 use Rattle.isa.specs.Decode as Rust
-use Rattle.emit_native.specs.Instr16 as I16
+use Rattle.instr16.specs.Instr16 as I16
 use Rattle.isa.proofs.Decoding.{imm-ci-is, shamt-is, imm-addi4spn-is, imm-addi16sp-is, imm-cj-is, imm-cb-is}
 use Rattle.translation.proofs.Calls.{Model, form-step, call-step, calls-run, scratch, form-fits, written, fits, keeps, all-fit, all-keep, Kept}
 use Rattle.translation.proofs.Alus.{body, body-law}

@@ -19,7 +19,7 @@ use Rattle.rv64.specs.Decode as D
 use Rattle.rv64.specs.Decode.{Table, lookup}
 use Rattle.emit_native.specs.Calls.{Call, mov-imm64, load, Emission, continue, none, calls-first, store-rd, then-store-rd}
 use Rattle.isa.specs.Decode as Rust
-use Rattle.emit_native.specs.Instr32 as I32
+use Rattle.instr32.specs.Instr32 as I32
 use Rattle.isa.proofs.Decoding.{imm-i-is, imm-b-is, imm-u-is, imm-j-is}
 use Rattle.translation.proofs.Calls.{Model, Kept, calls-run}
 use Rattle.translation.proofs.Alus.{body, slliw, srliw, sraiw, body-law, slliw-law, srliw-law, sraiw-law}

@@ -18,49 +18,49 @@ use Rattle.a64_exec.proofs.Flags.{difference-sub, z-law, c-law, n-law, lt-law}
 use Rattle.rv64.specs.declared.alu.Alu.{Alu}
 use Rattle.rv64.specs.Alu.{value, quotient, remainder, quotient-u, remainder-u}
 use Rattle.emit_native.specs.Calls.{Call}
-use Rattle.emit_native.specs.Instr32 as I32
+use Rattle.emit_native.specs.Sequences as Seq
 use Rattle.translation.proofs.Calls.{Model, form-step, call-step, calls-run}
 use Rattle.translation.proofs.Remainders.{rem-law, remu-law, mulhsu-law}
 
 unfoldable pub body : Alu → List Call
-body Alu.Add = I32.add
-body Alu.Sub = I32.sub
-body Alu.Sll = I32.sll
-body Alu.Slt = I32.slt
-body Alu.Sltu = I32.sltu
-body Alu.Xor = I32.xor
-body Alu.Srl = I32.srl
-body Alu.Sra = I32.sra
-body Alu.Or = I32.or
-body Alu.And = I32.and
-body Alu.Mul = I32.mul
-body Alu.Mulh = I32.mulh
-body Alu.Mulhsu = I32.mulhsu
-body Alu.Mulhu = I32.mulhu
-body Alu.Div = I32.div
-body Alu.Divu = I32.divu
-body Alu.Rem = I32.rem
-body Alu.Remu = I32.remu
-body Alu.Addw = I32.addw
-body Alu.Subw = I32.subw
-body Alu.Sllw = I32.sllw
-body Alu.Srlw = I32.srlw
-body Alu.Sraw = I32.sraw
-body Alu.Mulw = I32.mulw
-body Alu.Divw = I32.divw
-body Alu.Divuw = I32.divuw
-body Alu.Remw = I32.remw
-body Alu.Remuw = I32.remuw
+body Alu.Add = Seq.add
+body Alu.Sub = Seq.sub
+body Alu.Sll = Seq.sll
+body Alu.Slt = Seq.slt
+body Alu.Sltu = Seq.sltu
+body Alu.Xor = Seq.xor
+body Alu.Srl = Seq.srl
+body Alu.Sra = Seq.sra
+body Alu.Or = Seq.or
+body Alu.And = Seq.and
+body Alu.Mul = Seq.mul
+body Alu.Mulh = Seq.mulh
+body Alu.Mulhsu = Seq.mulhsu
+body Alu.Mulhu = Seq.mulhu
+body Alu.Div = Seq.div
+body Alu.Divu = Seq.divu
+body Alu.Rem = Seq.rem
+body Alu.Remu = Seq.remu
+body Alu.Addw = Seq.addw
+body Alu.Subw = Seq.subw
+body Alu.Sllw = Seq.sllw
+body Alu.Srlw = Seq.srlw
+body Alu.Sraw = Seq.sraw
+body Alu.Mulw = Seq.mulw
+body Alu.Divw = Seq.divw
+body Alu.Divuw = Seq.divuw
+body Alu.Remw = Seq.remw
+body Alu.Remuw = Seq.remuw
 
 -- SLLIW, SRLIW, SRAIW: their count is below 32
 unfoldable pub slliw : List Call
-slliw = I32.slliw
+slliw = Seq.slliw
 
 unfoldable pub srliw : List Call
-srliw = I32.srliw
+srliw = Seq.srliw
 
 unfoldable pub sraiw : List Call
-sraiw = I32.sraiw
+sraiw = Seq.sraiw
 
 less-zero : (n : ℕ) → n < 2 ^ 64 → difference n 0 ≡ n
 less-zero n h = omega arith

@@ -31,9 +31,9 @@ use Rattle.emit_native.specs.Calls.{Call, mov-imm64, Emission}
 use Rattle.emit_native.specs.Calls as Calls
 use Rattle.isa.specs.Isa.{OPCODE-SYSTEM, OPCODE-LOAD, OPCODE-STORE, OPCODE-LOAD-FP, OPCODE-STORE-FP, OPCODE-AMO}
 use Rattle.isa.specs.Decode as Rust
-use Rattle.emit_native.specs.Instr16 as I16
-use Rattle.emit_native.specs.Instr32 as I32
-use Rattle.emit_native.specs.TermHelper as TH
+use Rattle.instr16.specs.Instr16 as I16
+use Rattle.instr32.specs.Instr32 as I32
+use Rattle.term_helper.specs.TermHelper as TH
 use Rattle.jit_arm64.specs.Block.{Walk, walked, in-front, emit-native, emit-term-helper, helped, step, instr-walk, walk, fetch, fetch-upper}
 use Rattle.jit_arm64.specs.Translate.{by-helper}
 use Rattle.translation.proofs.Calls.{Model, call-step, calls-run, scratch, fits, all-fit, all-keep, AllIn, Kept, calls-kept, is-true}

@@ -15,7 +15,7 @@ use Rattle.rv64.specs.Decode as D
 use Rattle.rv64.specs.Compressed as C
 use Rattle.emit_native.specs.declared.Host.{Host}
 use Rattle.isa.specs.Decode as Rust
-use Rattle.emit_native.specs.TermHelper as TH
+use Rattle.term_helper.specs.TermHelper as TH
 use Rattle.emit_native.specs.declared.EmitFlow.{EmitFlow}
 use Rattle.translation.proofs.Agree32.{digit}
 

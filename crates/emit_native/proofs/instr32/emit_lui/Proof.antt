@@ -1,9 +1,0 @@
-use Rattle.emit_native.specs.Instr32.{lui}
-use Rattle.isa.proofs.Decoding.{imm-u-is}
-use borrow.Author.Needs.{needs}
-use Rattle.emit_native.proofs.instr32.emit_lui.Statement.{statement}
-use Rattle.emit_native.proofs.instr32.emit_lui.Tie as tie
-
-pub emit-lui-spec : {M : Type 1} → statement M
-unfolding lui
-emit-lui-spec = tie.close (tie.spec (λ c κs. search needs) (λ c κs. search needs) (λ c κs. search needs) (λ c. c .go-on .ensures _ _ _ (rw (c .before .mov-reg .ensures, c .before .before .imm-u .ensures, imm-u-is (c .before .before .before .args .instr) (c .before .before .before .fits .instr .fits)))))

@@ -1,6 +1,0 @@
-use borrow.Author.Needs.{needs}
-use Rattle.emit_native.proofs.op_32.emit_low_count.Statement.{statement}
-use Rattle.emit_native.proofs.op_32.emit_low_count.Tie as tie
-
-pub emit-low-count-spec : {M : Type 1} → statement M
-emit-low-count-spec = tie.close (tie.spec (λ c κs. search needs) (λ c κs. search needs) (λ c κs. search needs) (λ c. rw (c .emit .ensures, c .before .and-x .ensures, c .before .before .mov-imm64 .ensures)))

@@ -1,0 +1,24 @@
+use mathlib.Core.Path.{refl}
+use borrow.Author.Tests.{eq-eqb, ne-eqb}
+use Rattle.instr16.specs.Instr16.{c-addi}
+use Rattle.isa.proofs.Decoding.{imm-ci-is}
+use borrow.Author.Needs.{needs}
+use Rattle.instr16.proofs.emit_c_addi.Statement.{statement}
+use Rattle.instr16.proofs.emit_c_addi.Tie as tie
+
+pub emit-c-addi-spec : {M : Type 1} → statement M
+unfolding c-addi
+emit-c-addi-spec =
+    tie.close
+    (tie.spec
+    (λ c κs. search needs)
+    (λ c κs. search needs)
+    (λ c. rw (← c .before .before .rd-of .ensures .0, eq-eqb _ _ (c .before .if1 .taken)) (c .go-on .ensures _ _ _ refl))
+    (λ c κs. search needs)
+    (λ c κs. search needs)
+    (λ c κs. search needs)
+    (λ c κs. search needs)
+    (λ c κs. search needs)
+    (λ c κs. search needs)
+    (λ c κs. search needs)
+    (λ c. rw (← c .before .before .before .before .before .before .before .before .rd-of .ensures .0, ne-eqb _ _ (c .before .before .before .before .before .before .before .if1 .left)) (c .go-on2 .ensures _ _ _ (rw (c .before .store .ensures, c .before .before .emit .ensures, c .before .before .before .add-x .ensures, c .before .before .before .before .mov-imm64 .ensures, c .before .before .before .before .before .imm-ci .ensures, c .before .before .before .before .before .before .load .ensures, imm-ci-is (c .before .before .before .before .before .before .before .before .before .args .instr))))))

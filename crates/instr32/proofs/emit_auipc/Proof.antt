@@ -1,0 +1,11 @@
+use Rattle.instr32.specs.Instr32.{auipc}
+use Rattle.isa.proofs.Decoding.{imm-u-is}
+use borrow.Author.Needs.{needs}
+use Rattle.instr32.proofs.emit_auipc.Statement.{statement}
+use Rattle.instr32.proofs.emit_auipc.Tie as tie
+
+pub emit-auipc-spec : {M : Type 1} → statement M
+unfolding auipc
+emit-auipc-spec =
+    tie.close
+    (tie.spec (λ c κs. search needs) (λ c κs. search needs) (λ c κs. search needs) (λ c κs. search needs) (λ c. c .go-on .ensures _ _ _ (rw (c .before .mov-reg .ensures, c .before .before .wrapping-add-u64 .ensures, c .before .before .before .imm-u .ensures, imm-u-is (c .before .before .before .before .args .instr) (c .before .before .before .before .fits .instr .fits)))))

@@ -1,0 +1,10 @@
+use borrow.Author.Needs.{needs}
+use Rattle.term_helper.proofs.emit_pointers.Statement.{statement}
+use Rattle.term_helper.proofs.emit_pointers.Tie as tie
+
+returns : tie.Need-returns
+returns c = rw (c .emit3 .ensures, c .before .mov-x3 .ensures, c .before .before .emit2 .ensures, c .before .before .before .mov-x2 .ensures, c .before .before .before .before .emit .ensures, c .before .before .before .before .before .mov-x .ensures)
+
+pub emit-pointers-spec : {M : Type 1} → statement M
+emit-pointers-spec =
+    tie.close (search (tie.spec, returns, needs))
