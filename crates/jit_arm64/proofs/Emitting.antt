@@ -237,7 +237,7 @@ module _ (slot-offset : ℕ) where
   unfolding words-in
   words-size cs = refl
 
-  -- at most 29 words inline, and a helper's call apart from them
+  -- at most `inline-words` inline, and a helper's call apart from them
   pub native-size : (h : Host) (pc instr : ℕ) → size slot-offset (emit-native h pc instr .calls) ≤ inline-words
   unfolding emit-native
   native-size h pc instr =

@@ -4,7 +4,7 @@ use native.Mathlib.Omega.{arith}
 use mathlib.Core.Path.{_≡_, refl, ap, _∙_}
 use mathlib.Core.List.{List, [], _∷_, _++_, flatten}
 use lib.ListN.{length, take, length-take}
-use Rattle.rules.specs.Limits.{max-words, max-instrs}
+use Rattle.rules.specs.Limits.{end-words, max-words, max-instrs}
 use Rattle.word.specs.Word.{add}
 use Rattle.a64.specs.declared.emitter.A64Emitter.{A64Emitter}
 use Rattle.a64.specs.Parts.{block-words, emitted-in, emitted-all}
@@ -26,7 +26,7 @@ module _ (slot-offset : ℕ) where
       let es : List Call = emit ret ∷ [] in
       omega (arith, size-append slot-offset (mov-imm64 1 count ∷ []) es, small slot-offset 1 count (omega arith), size-le slot-offset es)
 
-  next-size : (pc count : ℕ) → count ≤ max-instrs → size slot-offset (next-calls pc count) ≤ 6
+  next-size : (pc count : ℕ) → count ≤ max-instrs → size slot-offset (next-calls pc count) ≤ end-words
   next-size pc count few =
       let cs : List Call = mov-imm64 0 pc ∷ [] in
       omega (arith, size-append slot-offset cs (return-calls count), size-le slot-offset cs, return-size count few)
@@ -39,7 +39,7 @@ module _ (slot-offset : ℕ) where
   end-size Uncovered pc count few = next-size pc count few
   end-size NotFetched pc count few = next-size pc count few
 
-  end-most : (why : Stop) → end-room why ≤ 6
+  end-most : (why : Stop) → end-room why ≤ end-words
   unfolding end-room
   end-most Helper = omega arith
   end-most Ended = omega arith

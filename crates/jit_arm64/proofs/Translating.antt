@@ -1,5 +1,5 @@
 -- Translate by its parts: which refusal, and the answer. Assumes nothing.
-use Prim.Native.Nat.{ℕ, _*_, _%_, _^_, _≤_, _<_}
+use Prim.Native.Nat.{ℕ, _-_, _*_, _%_, _^_, _≤_, _<_}
 use native.Mathlib.Omega.{arith}
 use mathlib.Core.Path.{_≡_, refl, sym, ap, _∙_}
 use mathlib.Core.Bool.{Bool, true, false, cond, _||_}
@@ -34,7 +34,7 @@ module _ (h : Host) (guest : List ℕ) (pc limit : ℕ) where
     -- no block
     stopped : (n : ℕ) (out : List ℕ) → refuses h guest pc limit ≡ true → no-block guest pc limit ≡ n → Refused n out
     unfolding translate of-block
-    stopped n out t e = rw (good, no-block-is 63 h guest pc limit hp, t, e) refl
+    stopped n out t e = rw (good, no-block-is (max-instrs - 1) h guest pc limit hp, t, e) refl
 
     pub no-limit : (out : List ℕ) → limit ≡ 0 → Refused Refusals.limit-zero out
     unfolding no-block
@@ -79,7 +79,7 @@ module _ (h : Host) (guest : List ℕ) (pc limit : ℕ) where
           found : compile-native-block max-instrs h guest pc limit ≡ some (block-of h (whole-walk max-instrs h guest pc limit))
           found =
               let t : refuses h guest pc limit ≡ false = rw (ne-eqb limit 0 a, ne-eqb (pc % 2) 1 b) (covered-by m u refl refl (sym e ∙ z)) in
-              no-block-is 63 h guest pc limit hp ∙ rw t refl
+              no-block-is (max-instrs - 1) h guest pc limit hp ∙ rw t refl
 
           pub too-short : length out < len → refused Refusals.output-short out′ ≡ translate h guest pc limit out
           unfolding translate of-block written

@@ -4,7 +4,7 @@ use native.Mathlib.Omega.{arith}
 use mathlib.Core.Path.{_≡_, refl, sym, ap, _∙_}
 use mathlib.Core.List.{List, [], _++_, append-assoc, append-nil, flatten}
 use lib.ListN.{length, take}
-use Rattle.rules.specs.Limits.{inline-words, instr-words, max-words, max-instrs}
+use Rattle.rules.specs.Limits.{inline-words, end-words, instr-words, max-words, max-instrs}
 use Rattle.word.specs.Word.{add}
 use Rattle.a64.specs.Parts.{held, Added}
 use Rattle.emit_native.specs.declared.EmitFlow.{EmitFlow}
@@ -27,9 +27,9 @@ use Rattle.jit_arm64.proofs.Fetching.{is-none, is-some}
 unfoldable pub end-room : Stop → ℕ
 end-room Helper = 0
 end-room Ended = 2
-end-room Limit = 6
-end-room Uncovered = 6
-end-room NotFetched = 6
+end-room Limit = end-words
+end-room Uncovered = end-words
+end-room NotFetched = end-words
 
 -- len words of l are those of n instructions, and the next is at index i
 pub record Walking (h : Host) (guest : List ℕ) (start limit : ℕ) (l : List ℕ) (len i n : ℕ) : Type 0 where

@@ -2,7 +2,7 @@
 use mathlib.Core.Path.{_≡_, refl, ap}
 use mathlib.Core.Bool.{Bool, true, false, cond, not, _||_, true≢false}
 use mathlib.Core.List.{List, [], _∷_, _++_}
-use Prim.Native.Nat.{ℕ, _%_, _^_, _≤_, _<_}
+use Prim.Native.Nat.{ℕ, _-_, _%_, _^_, _≤_, _<_}
 use native.Mathlib.Omega.{arith}
 use lib.Dec.{eqb, ltb}
 use lib.ListN.{length, take, drop}
@@ -52,9 +52,9 @@ module _ (h : Host) (pc limit : ℕ) (guest out : List ℕ) (hb : Bytes guest) (
   unfolding translate of-block no-block
   by true t s p q r z = absurd (omega (arith, rw p at z))
   by false true s p q r z =
-      absurd (reason (eqb limit 0) (eqb (pc % 2) 1) (is-missing (fetch pc guest 0)) (rw (p, no-block-is 63 h guest pc limit hp, q) at z))
-  by false false true p q r z = absurd (omega (arith, rw (p, no-block-is 63 h guest pc limit hp, q, r) at z))
-  by false false false p q r z = record { offset = p; block = q; is = rw (p, no-block-is 63 h guest pc limit hp, q, r) refl }
+      absurd (reason (eqb limit 0) (eqb (pc % 2) 1) (is-missing (fetch pc guest 0)) (rw (p, no-block-is (max-instrs - 1) h guest pc limit hp, q) at z))
+  by false false true p q r z = absurd (omega (arith, rw (p, no-block-is (max-instrs - 1) h guest pc limit hp, q, r) at z))
+  by false false false p q r z = record { offset = p; block = q; is = rw (p, no-block-is (max-instrs - 1) h guest pc limit hp, q, r) refl }
 
   -- demand 3 for what translation answers
   pub translated : (r : Result) → r ≡ translate h guest pc limit out → r .answer .refusal ≡ 0 → r .answer .helper ≡ 0
