@@ -58,14 +58,14 @@ slt = compared C-LT
 abbrev pub sltu : List Call
 sltu = compared C-CC
 
-abbrev pub and : List Call
-and = emit (and-x 11 9 10) ∷ []
+abbrev pub and-regs : List Call
+and-regs = emit (and-x 11 9 10) ∷ []
 
-abbrev pub or : List Call
-or = emit (orr-x 11 9 10) ∷ []
+abbrev pub or-regs : List Call
+or-regs = emit (orr-x 11 9 10) ∷ []
 
-abbrev pub xor : List Call
-xor = emit (eor-x 11 9 10) ∷ []
+abbrev pub xor-regs : List Call
+xor-regs = emit (eor-x 11 9 10) ∷ []
 
 abbrev pub sll : List Call
 sll = emit (lslv-x 11 9 10) ∷ []

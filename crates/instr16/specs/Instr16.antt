@@ -8,7 +8,7 @@ use Rattle.emit_native.specs.Hart.{C-EQ, C-NE, not-1}
 use Rattle.isa.specs.Decode.{c-funct3, c-op, c-rd, c-rs2, rd-prime, rs1-prime, rs2-prime, imm-ci, shamt, imm-addi4spn, imm-addi16sp, imm-cj, imm-cb}
 use Rattle.a64.specs.Writers.{add-x, and-x, orr-x, lslv-x, lsrv-x, asrv-x, cmp-x, csel-x, sxtw-x}
 use Rattle.emit_native.specs.Calls.{Call, emit, mov-imm64, load, store, if-not-0, Emission, continue, terminate, none, calls-first}
-use Rattle.emit_native.specs.Sequences.{sub, and, or, xor, addw, subw}
+use Rattle.emit_native.specs.Sequences.{sub, and-regs, or-regs, xor-regs, addw, subw}
 
 -- ---- 0b00
 
@@ -69,9 +69,9 @@ unfoldable pub c-alu : ℕ → ℕ → ℕ → Emission
 c-alu subop alu2 rs1 =
     let store-rs1 : List Call = store 11 rs1 ∷ [] in
     cond (eqb subop 0 && eqb alu2 0b00) (continue (sub ++ store-rs1))
-    (cond (eqb subop 0 && eqb alu2 0b01) (continue (xor ++ store-rs1))
-    (cond (eqb subop 0 && eqb alu2 0b10) (continue (or ++ store-rs1))
-    (cond (eqb subop 0 && eqb alu2 0b11) (continue (and ++ store-rs1))
+    (cond (eqb subop 0 && eqb alu2 0b01) (continue (xor-regs ++ store-rs1))
+    (cond (eqb subop 0 && eqb alu2 0b10) (continue (or-regs ++ store-rs1))
+    (cond (eqb subop 0 && eqb alu2 0b11) (continue (and-regs ++ store-rs1))
     (cond (eqb subop 1 && eqb alu2 0b00) (continue (subw ++ store-rs1))
     (cond (eqb subop 1 && eqb alu2 0b01) (continue (addw ++ store-rs1))
     (none []))))))

@@ -10,7 +10,7 @@ use Rattle.emit_native.specs.Hart.{C-EQ, C-NE, C-CS, C-CC, C-GE, C-LT, not-1}
 use Rattle.isa.specs.Decode.{imm-i, imm-b, imm-u, imm-j}
 use Rattle.a64.specs.Writers.{add-x, and-x, cmp-x, csel-x}
 use Rattle.emit_native.specs.Calls.{Call, emit, mov-imm64, load, store, if-not-0, Emission, continue, terminate, none, calls-first, then-store-rd}
-use Rattle.emit_native.specs.Sequences.{add, sub, slt, sltu, and, or, xor, sll, srl, sra, mul, mulh, mulhsu, mulhu, div, divu, rem, remu, addw, subw, slliw, srliw, sraiw, sllw, srlw, sraw, mulw, divw, divuw, remw, remuw}
+use Rattle.emit_native.specs.Sequences.{add, sub, slt, sltu, and-regs, or-regs, xor-regs, sll, srl, sra, mul, mulh, mulhsu, mulhu, div, divu, rem, remu, addw, subw, slliw, srliw, sraiw, sllw, srlw, sraw, mulw, divw, divuw, remw, remuw}
 
 unfoldable pub lui : ℕ → Decoded32 → Emission
 lui instr d = continue (if-not-0 (d .rd) (mov-imm64 11 (imm-u instr) ∷ store 11 (d .rd) ∷ []))
@@ -64,9 +64,9 @@ op-imm-arm imm imm12 funct3 =
     cond (eqb funct3 F3-ADD-SUB) (continue (mov-imm64 10 imm ∷ add))
     (cond (eqb funct3 F3-SLT) (continue (mov-imm64 10 imm ∷ slt))
     (cond (eqb funct3 F3-SLTU) (continue (mov-imm64 10 imm ∷ sltu))
-    (cond (eqb funct3 F3-XOR) (continue (mov-imm64 10 imm ∷ xor))
-    (cond (eqb funct3 F3-OR) (continue (mov-imm64 10 imm ∷ or))
-    (cond (eqb funct3 F3-AND) (continue (mov-imm64 10 imm ∷ and))
+    (cond (eqb funct3 F3-XOR) (continue (mov-imm64 10 imm ∷ xor-regs))
+    (cond (eqb funct3 F3-OR) (continue (mov-imm64 10 imm ∷ or-regs))
+    (cond (eqb funct3 F3-AND) (continue (mov-imm64 10 imm ∷ and-regs))
     (cond (eqb funct3 F3-SLL) (cond (eqb imm-hi 0) (continue (mov-imm64 10 (imm12 % 64) ∷ sll)) (none []))
     (cond (eqb funct3 F3-SRL-SRA)
     (calls-first (mov-imm64 10 (imm12 % 64) ∷ [])
@@ -133,9 +133,9 @@ ops =
     ∷ (F7-SUB-SRA, F3-ADD-SUB, sub)
     ∷ (F7-BASE, F3-SLT, slt)
     ∷ (F7-BASE, F3-SLTU, sltu)
-    ∷ (F7-BASE, F3-AND, and)
-    ∷ (F7-BASE, F3-OR, or)
-    ∷ (F7-BASE, F3-XOR, xor)
+    ∷ (F7-BASE, F3-AND, and-regs)
+    ∷ (F7-BASE, F3-OR, or-regs)
+    ∷ (F7-BASE, F3-XOR, xor-regs)
     ∷ (F7-BASE, F3-SLL, sll)
     ∷ (F7-BASE, F3-SRL-SRA, srl)
     ∷ (F7-SUB-SRA, F3-SRL-SRA, sra)
