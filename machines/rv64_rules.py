@@ -46,7 +46,7 @@ def rule(instructions, pc, next_pc, count, *, limit=64, flag=0, x={}, after={}, 
         + struct.pack("<QBB", next_pc, count, refusal))
 
 
-# The PC passes from the top of 64 bits to 0 (rule 1): behind the last halfword, behind the last word, inside a word.
+# The PC passes from the top of 64 bits to 0 (rule 1): after the last halfword, after the last word, inside a word.
 rule([C_NOP], TOP - 2, 0, 1)
 rule([NOP], TOP - 4, 0, 1)
 rule([NOP], TOP - 2, 2, 1)
@@ -58,7 +58,7 @@ rule([C_NOP, C_ADDI_X10_1, NOP, C_ADDI_X10_1], TOP - 4, 6, 4, x={10: 7}, after={
 rule([NOP, NOP, NOP], TOP - 6, 6, 3)
 rule([C_NOP] * 32, TOP - 32, 32, 32)
 rule([C_NOP] * 32, TOP - 32, 0, 16, limit=16)
-# It ends behind the top as elsewhere: by the limit, by a helper's instruction, by one that is not covered, by the bytes.
+# It ends past the top as elsewhere: by the limit, by a helper's instruction, by one that is not covered, by the bytes.
 rule([C_NOP, C_NOP], TOP - 2, 0, 1, limit=1)
 rule([C_NOP, LW_X0_X0], TOP - 2, 0, 1)
 rule([NOP, EBREAK], TOP - 2, 2, 1)
@@ -73,7 +73,7 @@ rule([AUIPC_BACK_1], 0, 4, 1, after={5: 0xFFFF_FFFF_FFFF_F000})
 rule([AUIPC_BACK_1], 0xFFE, 0x1002, 1, after={5: 0xFFFF_FFFF_FFFF_FFFE})
 rule([AUIPC_LEAST], 0, 4, 1, after={5: 0xFFFF_FFFF_8000_0000})
 rule([AUIPC_0], TOP - 2, 2, 1, after={5: 0xFFFF_FFFF_FFFF_FFFE})
-# Behind the top its PC is small again.
+# Past the top its PC is small again.
 rule([C_NOP, AUIPC_0], TOP - 2, 4, 2, after={5: 0})
 rule([NOP, AUIPC_0], TOP - 2, 6, 2, after={5: 2})
 rule([C_NOP, AUIPC_BACK_1], TOP - 2, 4, 2, after={5: 0xFFFF_FFFF_FFFF_F000})
@@ -96,11 +96,11 @@ rule([JALR_X5_X5], TOP - 4, 0x3000, 1, x={5: 0x3000}, after={5: 0})
 rule([JALR_X1_X5_1], 0x1000, 0, 1, x={5: 0xFFFF_FFFF_FFFF_FFFF}, after={1: 0x1004})
 rule([JALR_X1_X5_2], TOP - 4, 0, 1, x={5: 0xFFFF_FFFF_FFFF_FFFF}, after={1: 0})
 rule([JALR_X1_X5_BACK_1], 0x1000, 0xFFFF_FFFF_FFFF_FFFE, 1, x={5: 0}, after={1: 0x1004})
-# C.JALR links behind its two bytes, and reads its register before; C.JR links nothing.
+# C.JALR links to what follows its two bytes, and reads its register before; C.JR links nothing.
 rule([C_JALR_X5], TOP - 2, 0x3000, 1, x={5: 0x3001}, after={1: 0})
 rule([C_JALR_X1], TOP - 2, 0x3000, 1, x={1: 0x3000}, after={1: 0})
 rule([C_JR_X5], TOP - 2, 0x3000, 1, x={5: 0x3001})
-# Branches: taken, the target wraps; not taken, the PC behind them does.
+# Branches: taken, the target wraps; not taken, the PC after them does.
 rule([BEQ_8], TOP - 4, 4, 1)
 rule([BEQ_8], TOP - 8, 0, 1)
 rule([BEQ_8], TOP - 2, 6, 1)
