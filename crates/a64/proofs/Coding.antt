@@ -7,10 +7,10 @@ use native.Mathlib.Nat.{div-div-eq-div-mul}
 use native.Mathlib.Omega.{arith}
 use lib.Dec.{eqb, lit<}
 use borrow.Author.Tests.{eqb-true}
-use Rattle.a64.specs.declared.forms.Op.{Op}
-use Rattle.a64.specs.declared.forms.Op.the-variants.{Add, Sub, And, Orr, Eor, Lslv, Lsrv, Asrv, Mul, Smulh, Umulh, Udiv, Sdiv}
-use Rattle.a64.specs.declared.forms.Form.{Form}
-use Rattle.a64.specs.declared.forms.Form.the-variants.{DataProcessing, Ldr, Str, Movz, Movk, Cmp, Csel, Sxtw, AddSp, SubSp, Blr, Ret, Unreadable}
+use Rattle.a64.specs.declared.Op.{Op}
+use Rattle.a64.specs.declared.Op.the-variants.{Add, Sub, And, Orr, Eor, Lslv, Lsrv, Asrv, Mul, Smulh, Umulh, Udiv, Sdiv}
+use Rattle.a64.specs.declared.Form.{Form}
+use Rattle.a64.specs.declared.Form.the-variants.{DataProcessing, Ldr, Str, Movz, Movk, Cmp, Csel, Sxtw, AddSp, SubSp, Blr, Ret, Unreadable}
 use Rattle.a64.specs.Parts.{InRange}
 use Rattle.a64.specs.Forms.{op-word, ops, encode, rd, rn, rm, imm12, imm16, top-bits, mid-bits, low-bits, form-if, op-bits, decode-op, decode}
 

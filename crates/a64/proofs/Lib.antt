@@ -1,3 +1,1 @@
 pub mod Coding
-pub mod Writing
-pub mod Emission

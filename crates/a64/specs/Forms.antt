@@ -4,10 +4,10 @@ use Prim.Native.Nat.{ℕ, _+_, _*_, _/_, _%_, _^_}
 use mathlib.Core.Bool.{Bool, cond}
 use mathlib.Core.List.{List, [], _∷_}
 use lib.Dec.{eqb}
-use Rattle.a64.specs.declared.forms.Op.{Op}
-use Rattle.a64.specs.declared.forms.Op.the-variants.{Add, Sub, And, Orr, Eor, Lslv, Lsrv, Asrv, Mul, Smulh, Umulh, Udiv, Sdiv}
-use Rattle.a64.specs.declared.forms.Form.{Form}
-use Rattle.a64.specs.declared.forms.Form.the-variants.{DataProcessing, Ldr, Str, Movz, Movk, Cmp, Csel, Sxtw, AddSp, SubSp, Blr, Ret, Unreadable}
+use Rattle.a64.specs.declared.Op.{Op}
+use Rattle.a64.specs.declared.Op.the-variants.{Add, Sub, And, Orr, Eor, Lslv, Lsrv, Asrv, Mul, Smulh, Umulh, Udiv, Sdiv}
+use Rattle.a64.specs.declared.Form.{Form}
+use Rattle.a64.specs.declared.Form.the-variants.{DataProcessing, Ldr, Str, Movz, Movk, Cmp, Csel, Sxtw, AddSp, SubSp, Blr, Ret, Unreadable}
 
 -- the word of a three-register form whose registers are all 0
 abbrev pub op-word : Op → ℕ

@@ -1,4 +1,2 @@
 pub mod Forms
-pub mod Writers
-pub mod Emitter
 pub mod Parts

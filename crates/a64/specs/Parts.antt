@@ -1,16 +1,7 @@
 -- What the functions of this crate promise one another; no operation's contract reaches it.
-use Prim.Native.Nat.{ℕ, _+_, _≤_, _<_}
-use mathlib.Core.Path.{_≡_}
-use mathlib.Core.Bool.{Bool, true, false, cond}
-use mathlib.Core.List.{List, [], _∷_, _++_}
-use lib.ListN.{length, take, drop}
-use lib.Dec.{leb}
-use Rattle.a64.specs.declared.emitter.A64Emitter.{A64Emitter}
-use Rattle.a64.specs.declared.emitter.InstrEmitter.{InstrEmitter}
-use Rattle.a64.specs.declared.forms.Form.{Form}
-use Rattle.a64.specs.declared.forms.Form.the-variants.{DataProcessing, Ldr, Str, Movz, Movk, Cmp, Csel, Sxtw, AddSp, SubSp, Blr, Ret, Unreadable}
-use Rattle.a64.specs.Emitter.{bytes}
-use Rattle.rules.specs.Limits.{instr-words}
+use Prim.Native.Nat.{_<_}
+use Rattle.a64.specs.declared.Form.{Form}
+use Rattle.a64.specs.declared.Form.the-variants.{DataProcessing, Ldr, Str, Movz, Movk, Cmp, Csel, Sxtw, AddSp, SubSp, Blr, Ret, Unreadable}
 
 -- each field fits its bits
 abbrev pub InRange : Form → Type 0
@@ -27,44 +18,3 @@ InRange (SubSp imm) = imm < 4096
 InRange (Blr rn) = rn < 32
 InRange Ret = Unit {0}
 InRange Unreadable = Unit {0}
-
--- ---- the words that an emitter holds, an instruction's and a block's, and what the calls that add words leave
-
-unfoldable pub held : InstrEmitter → List ℕ
-held e = take (e .len) (e .words)
-
-unfoldable pub block-words : A64Emitter → List ℕ
-block-words e = take (e .len) (e .words)
-
--- the words h, of which there is room for m, after a call that adds ws: with all of ws, or unchanged where they do not fit
-unfoldable pub emitted-in : ℕ → List ℕ → List ℕ → List ℕ
-emitted-in m h ws = cond (leb (length h + length ws) m) (h ++ ws) h
-
--- the same of an instruction's emitter
-abbrev pub emitted : List ℕ → List ℕ → List ℕ
-emitted h ws = emitted-in instr-words h ws
-
--- a word, where the test holds
-unfoldable pub emitted-if : Bool → ℕ → List ℕ
-emitted-if true w = w ∷ []
-emitted-if false w = []
-
--- the words h after several calls, each of which adds a group of words
-abbrev pub emitted-all : List ℕ → List (List ℕ) → List ℕ
-emitted-all h [] = h
-emitted-all h (g ∷ gs) = emitted-all (emitted h g) gs
-
--- what a call leaves of an array l of m words whose first n are held: the first r of l′ are held, and they are those with ws added
-pub record Added (m : ℕ) (l : List ℕ) (n : ℕ) (l′ : List ℕ) (r : ℕ) (ws : List ℕ) : Type 0 where
-  pub long : length l′ ≡ m
-  pub holds : take r l′ ≡ emitted-in m (take n l) ws
-  pub room : (n ≤ m → r ≤ m)
-
--- d with the words ws as bytes at its front and the rest unchanged, where they fit
-unfoldable pub written : List ℕ → List ℕ → List ℕ
-written ws d = cond (leb (length (bytes ws)) (length d)) (bytes ws ++ drop (length (bytes ws)) d) d
-
--- the words ws written to d, which is then d′: r bytes are theirs
-pub record Written (ws d : List ℕ) (r : ℕ) (d′ : List ℕ) : Type 0 where
-  pub count : r ≡ length (bytes ws)
-  pub content : d′ ≡ written ws d

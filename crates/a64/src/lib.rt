@@ -1,11 +1,125 @@
-// The A64 forms, their words, and the emitters of hart.rs.
-pub mod emitter;
-pub mod forms;
-mod writers;
+// The A64 forms that `A64Emitter` and the literal RET produce, and the form of a word.
+ghost use mathlib.Core.Path.{_≡_};
+ghost use Rattle.a64.specs.Forms.{decode, decode-op, decode-register, form-if, ops};
 
-pub use emitter::A64Emitter;
-pub use emitter::InstrEmitter;
-pub use emitter::append_at;
-pub use forms::Form;
-pub use forms::Op;
-pub use forms::decode;
+// The operations of the three-register forms.
+pub enum Op {
+    Add,
+    Sub,
+    And,
+    Orr,
+    Eor,
+    Lslv,
+    Lsrv,
+    Asrv,
+    Mul,
+    Smulh,
+    Umulh,
+    Udiv,
+    Sdiv,
+}
+
+// The 24 forms: 13 with three registers and 11 others, with their fields in the order of the assembler.
+pub enum Form {
+    // op, rd, rn, rm
+    DataProcessing(Op, u32, u32, u32),
+    // rt, rn, offset in units of 8
+    Ldr(u32, u32, u32),
+    Str(u32, u32, u32),
+    // rd, halfword (0 to 3), value
+    Movz(u32, u32, u32),
+    Movk(u32, u32, u32),
+    // rn, rm
+    Cmp(u32, u32),
+    // rd, rn, rm, condition
+    Csel(u32, u32, u32, u32),
+    // rd, rn
+    Sxtw(u32, u32),
+    // number
+    AddSp(u32),
+    SubSp(u32),
+    // rn
+    Blr(u32),
+    Ret,
+    // any other word
+    Unreadable,
+}
+
+// The three-register form of a word.
+fn decode_op(w: u32) -> Form
+    ensures { λ r. ⌜ r ≡ decode-op ops w ⌝ }
+{
+    let rd = w % 32;
+    let rn = w / 32 % 32;
+    let rm = w / 0x1_0000 % 32;
+    // Bits 31 to 21 and 15 to 10 side by side.
+    let op = match w / 0x20_0000 * 64 + w / 1024 % 64 {
+        0x1_1600 => Op::Add,
+        0x1_9600 => Op::Sub,
+        0x1_1400 => Op::And,
+        0x1_5400 => Op::Orr,
+        0x1_9400 => Op::Eor,
+        0x1_3588 => Op::Lslv,
+        0x1_3589 => Op::Lsrv,
+        0x1_358A => Op::Asrv,
+        0x1_361F => Op::Mul,
+        0x1_369F => Op::Smulh,
+        0x1_379F => Op::Umulh,
+        0x1_3582 => Op::Udiv,
+        0x1_3583 => Op::Sdiv,
+        _ => return Form::Unreadable,
+    };
+    Form::DataProcessing(op, rd, rn, rm)
+}
+
+fn form_if(test: bool, f: Form) -> Form
+    ensures { λ r. ⌜ r ≡ form-if test f ⌝ }
+{
+    if test { f } else { Form::Unreadable }
+}
+
+// The form of a word without an immediate.
+fn decode_register(w: u32) -> Form
+    ensures { λ r. ⌜ r ≡ decode-register w ⌝ }
+{
+    let rd = w % 32;
+    let rn = w / 32 % 32;
+    let rm = w / 0x1_0000 % 32;
+    match w / 0x20_0000 {
+        0x758 => form_if(w / 1024 % 64 == 0, form_if(rd == 31, Form::Cmp(rn, rm))),
+        0x4D4 => form_if(w / 1024 % 4 == 0, Form::Csel(rd, rn, rm, w / 4096 % 16)),
+        0x49A => form_if(w / 1024 % 2048 == 31, Form::Sxtw(rd, rn)),
+        0x6B1 => form_if(w / 1024 % 2048 == 0x7C0, form_if(rd == 0, Form::Blr(rn))),
+        0x6B2 => form_if(w % 0x20_0000 == 0x1F_03C0, Form::Ret),
+        _ => decode_op(w),
+    }
+}
+
+// The form of a word, by its upper eleven bits.
+pub fn decode(w: u32) -> Form
+    ensures { λ r. ⌜ r ≡ decode w ⌝ }
+{
+    let rd = w % 32;
+    let rn = w / 32 % 32;
+    let imm = w / 1024 % 4096;
+    let half = w / 32 % 0x1_0000;
+    match w / 0x20_0000 {
+        0x694 => Form::Movz(rd, 0, half),
+        0x695 => Form::Movz(rd, 1, half),
+        0x696 => Form::Movz(rd, 2, half),
+        0x697 => Form::Movz(rd, 3, half),
+        0x794 => Form::Movk(rd, 0, half),
+        0x795 => Form::Movk(rd, 1, half),
+        0x796 => Form::Movk(rd, 2, half),
+        0x797 => Form::Movk(rd, 3, half),
+        0x7CA => Form::Ldr(rd, rn, imm),
+        0x7CB => Form::Ldr(rd, rn, imm),
+        0x7C8 => Form::Str(rd, rn, imm),
+        0x7C9 => Form::Str(rd, rn, imm),
+        0x488 => form_if(w % 1024 == 0x3FF, Form::AddSp(imm)),
+        0x489 => form_if(w % 1024 == 0x3FF, Form::AddSp(imm)),
+        0x688 => form_if(w % 1024 == 0x3FF, Form::SubSp(imm)),
+        0x689 => form_if(w % 1024 == 0x3FF, Form::SubSp(imm)),
+        _ => decode_register(w),
+    }
+}

@@ -7,10 +7,10 @@ use lib.Dec.{leb, eqb}
 use lib.ListN.{length, getD, set}
 use Rattle.word.specs.Word.{wrap, add, mul, and64, or64, xor64, complement, sign, sext, bias, shl, shr, asr, udiv, sdiv, mulh, mulhu}
 use Rattle.le.specs.Le.{load, store}
-use Rattle.a64.specs.declared.forms.Op.{Op}
-use Rattle.a64.specs.declared.forms.Op.the-variants.{Add, Sub, And, Orr, Eor, Lslv, Lsrv, Asrv, Mul, Smulh, Umulh, Udiv, Sdiv}
-use Rattle.a64.specs.declared.forms.Form.{Form}
-use Rattle.a64.specs.declared.forms.Form.the-variants.{DataProcessing, Ldr, Str, Movz, Movk, Cmp, Csel, Sxtw, AddSp, SubSp, Blr, Ret}
+use Rattle.a64.specs.declared.Op.{Op}
+use Rattle.a64.specs.declared.Op.the-variants.{Add, Sub, And, Orr, Eor, Lslv, Lsrv, Asrv, Mul, Smulh, Umulh, Udiv, Sdiv}
+use Rattle.a64.specs.declared.Form.{Form}
+use Rattle.a64.specs.declared.Form.the-variants.{DataProcessing, Ldr, Str, Movz, Movk, Cmp, Csel, Sxtw, AddSp, SubSp, Blr, Ret}
 use Rattle.a64_exec.specs.declared.state.Flags.{Flags}
 use Rattle.a64_exec.specs.declared.exec.Outcome.{Outcome}
 

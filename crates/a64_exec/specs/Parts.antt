@@ -5,7 +5,7 @@ use mathlib.Core.List.{List}
 use Prim.Native.Nat.{ℕ, _+_, _-_, _%_, _≤_}
 use lib.Dec.{leb, eqb}
 use lib.ListN.{length}
-use Rattle.a64.specs.declared.forms.Form.{Form}
+use Rattle.a64.specs.declared.Form.{Form}
 use Rattle.a64_exec.specs.declared.exec.Access.{Access}
 use Rattle.a64_exec.specs.declared.exec.Access.the-variants.{At, Fault}
 use Rattle.a64_exec.specs.declared.exec.Stepped.{Stepped}

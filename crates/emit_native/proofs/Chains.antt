@@ -2,8 +2,8 @@
 use Prim.Native.Nat.{ℕ}
 use mathlib.Core.Path.{_≡_, _∙_}
 use mathlib.Core.List.{List, map-append}
-use Rattle.a64.specs.Parts.{held, emitted-all}
-use Rattle.a64.proofs.Emission.{emitted-all-append}
+use Rattle.a64_emitter.specs.Parts.{held, emitted-all}
+use Rattle.a64_emitter.proofs.Emission.{emitted-all-append}
 use Rattle.emit_native.specs.declared.Emitted.{Emitted}
 use Rattle.emit_native.specs.Calls.{Call, groups, Emission, calls-first, store-rd, then-store-rd}
 use Rattle.emit_native.specs.Parts.{Emits}

@@ -6,7 +6,7 @@ use mathlib.Core.Bool.{Bool, true, false, cond}
 use mathlib.Core.List.{List, [], _∷_, _++_, flatten}
 use lib.Dec.{eqb, leb, T, leb→le}
 use lib.ListN.{length, length-append}
-use Rattle.a64.proofs.Emission.{constant-most}
+use Rattle.a64_emitter.proofs.Emission.{constant-most}
 use Rattle.emit_native.specs.declared.EmitFlow.{EmitFlow}
 use Rattle.emit_native.specs.declared.EmitFlow.the-variants.{Continue, Terminate, None}
 use Rattle.emit_native.specs.Calls.{Call, emit, mov-imm64, load, store, rust, call-words, groups, if-not-0, store-rd, Emission, calls-first, then-store-rd}

@@ -3,8 +3,8 @@ use Prim.Native.Nat.{ℕ, _+_, _*_}
 use mathlib.Core.Bool.{cond}
 use mathlib.Core.List.{List, [], _∷_, _++_, map, flatten}
 use lib.Dec.{eqb}
-use Rattle.a64.specs.Writers.{ldr-x, str-x}
-use Rattle.a64.specs.Writers as Writers
+use Rattle.a64_emitter.specs.Writers.{ldr-x, str-x}
+use Rattle.a64_emitter.specs.Writers as Writers
 use Rattle.emit_native.specs.declared.EmitFlow.{EmitFlow}
 use Rattle.emit_native.specs.declared.EmitFlow.the-variants.{Continue, Terminate, None}
 

@@ -5,8 +5,8 @@ use mathlib.Core.Bool.{Bool, false, not}
 use mathlib.Core.List.{List}
 use lib.Dec.{eqb}
 use Rattle.isa.specs.declared.decode.Decoded32.{Decoded32}
-use Rattle.a64.specs.declared.emitter.InstrEmitter.{InstrEmitter}
-use Rattle.a64.specs.Parts.{held, emitted-all}
+use Rattle.a64_emitter.specs.declared.InstrEmitter.{InstrEmitter}
+use Rattle.a64_emitter.specs.Parts.{held, emitted-all}
 use Rattle.emit_native.specs.declared.EmitFlow.{EmitFlow}
 use Rattle.emit_native.specs.declared.EmitFlow.the-variants.{Continue, Terminate, None}
 use Rattle.emit_native.specs.declared.Emitted.{Emitted}

@@ -1,7 +1,7 @@
 -- What the arithmetic instructions of both widths emit, from X9 and X10 into X11.
 use Prim.Native.Nat.{ℕ}
 use mathlib.Core.List.{List, [], _∷_, _++_}
-use Rattle.a64.specs.Writers.{add-x, sub-x, and-x, orr-x, eor-x, lslv-x, lsrv-x, asrv-x, mul-x, smulh-x, umulh-x, udiv-x, sdiv-x, cmp-x, csel-x, sxtw-x}
+use Rattle.a64_emitter.specs.Writers.{add-x, sub-x, and-x, orr-x, eor-x, lslv-x, lsrv-x, asrv-x, mul-x, smulh-x, umulh-x, udiv-x, sdiv-x, cmp-x, csel-x, sxtw-x}
 use Rattle.emit_native.specs.Hart.{C-EQ, C-CC, C-MI, C-LT, u64-MAX, i64-MIN}
 use Rattle.emit_native.specs.Calls.{Call, emit, mov-imm64}
 

@@ -3,13 +3,13 @@ ghost use mathlib.Core.Path.{_≡_};
 ghost use mathlib.Core.List.{[], _∷_};
 ghost use Prim.Native.Nat.{_<_, _≤_};
 ghost use Rattle.rules.specs.Limits.{max-slot-offset};
-ghost use Rattle.a64.specs.Parts.{held, emitted, emitted-all};
+ghost use Rattle.a64_emitter.specs.Parts.{held, emitted, emitted-all};
 ghost use Rattle.emit_native.specs.Calls.{Call, Dialect, call-words, groups, reg-off, if-not-0, store-rd};
 ghost use Rattle.emit_native.specs.Parts.{stores, Answers};
 use crate::EmitFlow;
 use crate::Emitted;
-use a64::A64Emitter;
-use a64::InstrEmitter;
+use a64_emitter::A64Emitter;
+use a64_emitter::InstrEmitter;
 
 // Rule 9.
 fn reg_off(slot_offset: u64, n: u8) -> u16

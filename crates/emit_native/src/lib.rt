@@ -1,5 +1,5 @@
 // What the emitters of jit_arm64.rs share: their answer, what the host gives, and calls.
-use a64::InstrEmitter;
+use a64_emitter::InstrEmitter;
 
 pub mod calls;
 

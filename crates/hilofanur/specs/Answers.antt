@@ -7,9 +7,9 @@ use Rattle.le.specs.Le.{load, numbers, all-bytes}
 use Rattle.emit_native.specs.declared.Host.{Host}
 use Rattle.jit_arm64.specs.Translate as T
 use Rattle.code_cache.specs.Place as P
-use Rattle.rv64.specs.declared.run.Hart.{Hart}
-use Rattle.rv64.specs.declared.run.Answer as RvAnswer
-use Rattle.rv64.specs.Run.{number, answer}
+use Rattle.rv64_run.specs.declared.run.Hart.{Hart}
+use Rattle.rv64_run.specs.declared.run.Answer as RvAnswer
+use Rattle.rv64_run.specs.Run.{number, answer}
 use Rattle.a64_exec.specs.declared.state.A64State.{A64State}
 use Rattle.a64_run.specs.Run as A64
 use Rattle.a64_exec.specs.Nzcv.{flags-of, nzcv-of}

@@ -7,9 +7,7 @@ ghost use Rattle.hilofanur.specs.Answers as Answers;
 mod a64_state;
 mod rv64_hart;
 
-use a64_run::run;
 use emit_native::Host;
-use rv64::run as rv64_run;
 
 // The refusal, 0 where the block was written; its length in bytes; its count of instructions; 1 where a helper ended it.
 #[repr(C)]
@@ -100,7 +98,7 @@ pub extern "C" fn hilofanur_a64_run(
     ensures { λ r. ⌜ Answers.a64-result r (now (state .exit)) (now (memory .exit)) ≡ Answers.a64-run (now (block .entry)) address (now (state .entry)) budget (now (memory .entry)) base ⌝ }
 {
     let before = a64_state::from_bytes(state);
-    let answer = run::a64_run(block, address, before, budget, memory, base);
+    let answer = a64_run::run::a64_run(block, address, before, budget, memory, base);
     let refusal = answer.refusal;
     if refusal != 0 {
         return A64RunAnswer {
@@ -130,9 +128,9 @@ pub extern "C" fn hilofanur_rv64_run(
     ensures { λ r. ⌜ Answers.rv64-result r (now (registers .exit)) ≡ Answers.rv64-run (now (guest .entry)) pc limit «ignore_ebreak» (now (registers .entry)) ⌝ }
 {
     let before = rv64_hart::from_bytes(registers, pc);
-    let answer = rv64_run::rv64_run(guest, before, limit, ignore_ebreak);
+    let answer = rv64_run::run::rv64_run(guest, before, limit, ignore_ebreak);
     let why = answer.refusal;
-    let refusal = rv64_run::number(why);
+    let refusal = rv64_run::run::number(why);
     let after = answer.hart;
     if refusal != 0 {
         return Rv64RunAnswer {

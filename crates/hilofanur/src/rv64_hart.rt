@@ -3,7 +3,7 @@ ghost use mathlib.Core.Path.{_≡_};
 ghost use lib.ListN.{length};
 ghost use Rattle.le.specs.Le.{all-bytes};
 ghost use Rattle.hilofanur.specs.Answers as Answers;
-use rv64::run::Hart;
+use rv64_run::run::Hart;
 
 pub fn from_bytes(b: &[u8], pc: u64) -> Hart
     requires { ⌜ length (now b) ≡ 256 ⌝ }

@@ -6,7 +6,7 @@ use lib.Dec.{eqb}
 use Rattle.word.specs.Word.{add, shl}
 use Rattle.emit_native.specs.Hart.{C-EQ, C-NE, not-1}
 use Rattle.isa.specs.Decode.{c-funct3, c-op, c-rd, c-rs2, rd-prime, rs1-prime, rs2-prime, imm-ci, shamt, imm-addi4spn, imm-addi16sp, imm-cj, imm-cb}
-use Rattle.a64.specs.Writers.{add-x, and-x, orr-x, lslv-x, lsrv-x, asrv-x, cmp-x, csel-x, sxtw-x}
+use Rattle.a64_emitter.specs.Writers.{add-x, and-x, orr-x, lslv-x, lsrv-x, asrv-x, cmp-x, csel-x, sxtw-x}
 use Rattle.emit_native.specs.Calls.{Call, emit, mov-imm64, load, store, if-not-0, Emission, continue, terminate, none, calls-first}
 use Rattle.emit_native.specs.Sequences.{sub, and-regs, or-regs, xor-regs, addw, subw}
 

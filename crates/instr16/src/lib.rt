@@ -2,11 +2,11 @@
 ghost use mathlib.Core.Path.{_≡_};
 ghost use Prim.Native.Nat.{_<_, _≤_, _+_, _/_, _%_};
 ghost use Rattle.rules.specs.Limits.{max-slot-offset};
-ghost use Rattle.a64.specs.Parts.{held};
+ghost use Rattle.a64_emitter.specs.Parts.{held};
 ghost use Rattle.emit_native.specs.Parts.{Emits};
 ghost use Rattle.instr16.specs.Instr16.{addi4spn, quadrant-0, c-addi, c-addiw, c-li, c-addi16sp, c-lui, c-srli, c-srai, c-andi, c-alu, c-group, c-j, c-condition, c-branch, c-addi16sp-lui, quadrant-1, c-slli, c-jr, c-mv, c-jalr, c-add, c-jump-move-add, quadrant-2, emit-native-instr16};
-use a64::A64Emitter;
-use a64::InstrEmitter;
+use a64_emitter::A64Emitter;
+use a64_emitter::InstrEmitter;
 use emit_native::Emitted;
 use emit_native::Host;
 use emit_native::calls::go_on;

@@ -5,7 +5,7 @@ use mathlib.Core.Bool.{Bool, true, false, _&&_}
 use mathlib.Core.List.{[], _∷_, flatten}
 use lib.Dec.{eqb, leb, T, leb→le}
 use Rattle.rules.specs.Limits.{inline-words}
-use Rattle.a64.specs.Writers as Writers
+use Rattle.a64_emitter.specs.Writers as Writers
 use Rattle.isa.specs.declared.decode.Decoded32.{Decoded32}
 use Rattle.isa.specs.Decode.{imm-i}
 use Rattle.emit_native.specs.Calls.{mov-imm64, load}

@@ -8,7 +8,7 @@ use Rattle.isa.specs.declared.decode.Decoded32.{Decoded32}
 use Rattle.isa.specs.Isa.{OPCODE-LUI, OPCODE-AUIPC, OPCODE-JAL, OPCODE-JALR, OPCODE-BRANCH, OPCODE-OP-IMM, OPCODE-OP, OPCODE-OP-IMM-32, OPCODE-OP-32, OPCODE-MISC-MEM, F3-ADD-SUB, F3-SLL, F3-SLT, F3-SLTU, F3-XOR, F3-SRL-SRA, F3-OR, F3-AND, F3-BEQ, F3-BNE, F3-BLT, F3-BGE, F3-BLTU, F3-BGEU, F3-FENCE, F3-FENCE-I, F7-BASE, F7-SUB-SRA, F7-MULDIV}
 use Rattle.emit_native.specs.Hart.{C-EQ, C-NE, C-CS, C-CC, C-GE, C-LT, not-1}
 use Rattle.isa.specs.Decode.{imm-i, imm-b, imm-u, imm-j}
-use Rattle.a64.specs.Writers.{add-x, and-x, cmp-x, csel-x}
+use Rattle.a64_emitter.specs.Writers.{add-x, and-x, cmp-x, csel-x}
 use Rattle.emit_native.specs.Calls.{Call, emit, mov-imm64, load, store, if-not-0, Emission, continue, terminate, none, calls-first, then-store-rd}
 use Rattle.emit_native.specs.Sequences.{add, sub, slt, sltu, and-regs, or-regs, xor-regs, sll, srl, sra, mul, mulh, mulhsu, mulhu, div, divu, rem, remu, addw, subw, slliw, srliw, sraiw, sllw, srlw, sraw, mulw, divw, divuw, remw, remuw}
 

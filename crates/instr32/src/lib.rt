@@ -2,12 +2,12 @@
 ghost use mathlib.Core.Path.{_≡_};
 ghost use Prim.Native.Nat.{_<_, _≤_};
 ghost use Rattle.rules.specs.Limits.{max-slot-offset};
-ghost use Rattle.a64.specs.Parts.{held};
+ghost use Rattle.a64_emitter.specs.Parts.{held};
 ghost use Rattle.emit_native.specs.Parts.{Emits, InRange};
 ghost use Rattle.isa.specs.Decode.{decode32};
 ghost use Rattle.instr32.specs.Instr32.{lui, auipc, jal, jalr, branch-on, branch, op-imm, op-imm-32, op-32, op, misc-mem, emit-native-instr};
-use a64::A64Emitter;
-use a64::InstrEmitter;
+use a64_emitter::A64Emitter;
+use a64_emitter::InstrEmitter;
 use emit_native::Emitted;
 use emit_native::calls::go_on;
 use emit_native::calls::load;

@@ -1,14 +1,14 @@
 // The arms of OPCODE_OP: from X9 and X10 into X11. What several arms share stands first.
 ghost use mathlib.Core.Path.{_≡_};
 ghost use Prim.Native.Nat.{ℕ, _<_};
-ghost use Rattle.a64.specs.Parts.{held, emitted-all};
+ghost use Rattle.a64_emitter.specs.Parts.{held, emitted-all};
 ghost use Rattle.isa.specs.Isa.{F7-BASE, F7-SUB-SRA, F7-MULDIV};
 ghost use Rattle.emit_native.specs.Calls.{groups};
 ghost use Rattle.emit_native.specs.Parts.{Emits};
 ghost use Rattle.emit_native.specs.Sequences.{compared, zero-divisor, remainder, is-value, overflow, mulhsu};
 ghost use Rattle.instr32.specs.Instr32.{op-arm};
-use a64::A64Emitter;
-use a64::InstrEmitter;
+use a64_emitter::A64Emitter;
+use a64_emitter::InstrEmitter;
 use emit_native::Emitted;
 use emit_native::calls::go_on;
 use emit_native::calls::none;

@@ -1,7 +1,7 @@
 // The arms of OPCODE_OP_32: from X9 and X10 into X11.
 ghost use mathlib.Core.Path.{_≡_};
 ghost use Prim.Native.Nat.{ℕ, _<_};
-ghost use Rattle.a64.specs.Parts.{held, emitted-all};
+ghost use Rattle.a64_emitter.specs.Parts.{held, emitted-all};
 ghost use Rattle.isa.specs.Isa.{F7-BASE, F7-SUB-SRA, F7-MULDIV};
 ghost use Rattle.emit_native.specs.Calls.{groups};
 ghost use Rattle.emit_native.specs.Parts.{Emits};
@@ -9,8 +9,8 @@ ghost use Rattle.emit_native.specs.Sequences.{sxtw, low-count, sign-extended, z
 ghost use Rattle.instr32.specs.Instr32.{op-32-arm};
 use crate::op::emit_remainder;
 use crate::op::emit_zero_divisor;
-use a64::A64Emitter;
-use a64::InstrEmitter;
+use a64_emitter::A64Emitter;
+use a64_emitter::InstrEmitter;
 use emit_native::Emitted;
 use emit_native::calls::go_on;
 use emit_native::calls::none;

@@ -1,6 +1,6 @@
 // The arms of OPCODE_OP_IMM and OPCODE_OP_IMM_32: from X9 and a constant in X10 into X11.
 ghost use Prim.Native.Nat.{ℕ};
-ghost use Rattle.a64.specs.Parts.{held};
+ghost use Rattle.a64_emitter.specs.Parts.{held};
 ghost use Rattle.isa.specs.Isa.{F3-SRL-SRA};
 ghost use Rattle.emit_native.specs.Parts.{Emits};
 ghost use Rattle.instr32.specs.Instr32.{op-imm-arm, op-imm-32-arm};
@@ -8,8 +8,8 @@ use crate::op::C_CC;
 use crate::op::C_LT;
 use crate::op::emit_compared;
 use crate::op_32::emit_sxtw;
-use a64::A64Emitter;
-use a64::InstrEmitter;
+use a64_emitter::A64Emitter;
+use a64_emitter::InstrEmitter;
 use emit_native::Emitted;
 use emit_native::calls::go_on;
 use emit_native::calls::none;

@@ -9,16 +9,16 @@ use lib.Dec.{eqb}
 use lib.ListN.{length, take, length-append, length-take}
 use borrow.Author.Tests.{eqb-true, eq-eqb, ne-eqb}
 use Rattle.rules.specs.Limits.{inline-words, instr-words, max-words}
-use Rattle.a64.specs.Writers as Writers
-use Rattle.a64.specs.Parts.{held, Added}
-use Rattle.a64.proofs.Emission.{constant-length, movk-none, emitted-all-new, emitted-fits}
+use Rattle.a64_emitter.specs.Writers as Writers
+use Rattle.a64_emitter.specs.Parts.{held, Added}
+use Rattle.a64_emitter.proofs.Emission.{constant-length, movk-none, emitted-all-new, emitted-fits}
 use Rattle.isa.specs.declared.decode.Decoded32.{Decoded32}
 use Rattle.emit_native.specs.declared.EmitFlow.the-variants.{Terminate}
 use Rattle.emit_native.specs.declared.Emitted.{Emitted}
 use Rattle.emit_native.specs.declared.Host.{Host}
 use Rattle.isa.specs.Isa.{OPCODE-LOAD, OPCODE-STORE, OPCODE-LOAD-FP, OPCODE-STORE-FP, OPCODE-SYSTEM, OPCODE-AMO, F3-LB, F3-LH, F3-LW, F3-LD, F3-LBU, F3-LHU, F3-LWU, F3-SB, F3-SH, F3-SW, F3-SD}
 use Rattle.isa.specs.Decode.{decode32, c-op, c-funct3, imm-i, imm-s}
-use Rattle.a64.specs.Writers.{add-x, ldr-x, str-x, mov-x, sub-sp-imm, add-sp-imm, blr, ret}
+use Rattle.a64_emitter.specs.Writers.{add-x, ldr-x, str-x, mov-x, sub-sp-imm, add-sp-imm, blr, ret}
 use Rattle.emit_native.specs.Calls.{Call, emit, mov-imm64, load, rust, call-words, groups, words-in, words, if-not-0, Emission, none}
 use Rattle.emit_native.specs.Parts.{Emits}
 use Rattle.instr16.specs.Instr16.{emit-native-instr16, quadrant-0, quadrant-2}

@@ -6,10 +6,10 @@ use mathlib.Core.List.{List, [], _∷_, _++_, flatten}
 use lib.ListN.{length, take, length-take}
 use Rattle.rules.specs.Limits.{end-words, max-words, max-instrs}
 use Rattle.word.specs.Word.{add}
-use Rattle.a64.specs.declared.emitter.A64Emitter.{A64Emitter}
-use Rattle.a64.specs.Parts.{block-words, emitted-in, emitted-all}
-use Rattle.a64.proofs.Emission.{emitted-fits, emitted-all-new}
-use Rattle.a64.specs.Writers.{ret}
+use Rattle.a64_emitter.specs.declared.A64Emitter.{A64Emitter}
+use Rattle.a64_emitter.specs.Parts.{block-words, emitted-in, emitted-all}
+use Rattle.a64_emitter.proofs.Emission.{emitted-fits, emitted-all-new}
+use Rattle.a64_emitter.specs.Writers.{ret}
 use Rattle.emit_native.specs.Calls.{Call, emit, mov-imm64, groups, words-in, words}
 use Rattle.emit_native.proofs.Size.{size, size-append, size-le}
 use Rattle.jit_arm64.specs.declared.block.Stop.{Stop}

@@ -4,8 +4,8 @@ use mathlib.Core.Path.{_≡_, refl}
 use mathlib.Core.Bool.{false}
 use mathlib.Core.List.{List, [], _∷_, _++_, map, flatten}
 use lib.ListN.{length, replicate}
-use Rattle.a64.specs.Emitter.{bytes}
-use Rattle.a64.specs.Writers as Writers
+use Rattle.a64_emitter.specs.Emitter.{bytes}
+use Rattle.a64_emitter.specs.Writers as Writers
 use Rattle.le.specs.Le as Le
 use Rattle.word.specs.Word as W
 use Rattle.emit_native.specs.declared.Host.{Host}

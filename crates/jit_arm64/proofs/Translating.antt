@@ -10,10 +10,10 @@ use lib.ListN.{length, take, length-take}
 use borrow.Author.Tests.{le-ltb, lt-ltb, le-leb, lt-leb, eq-eqb, ne-eqb, ltb-false}
 use Rattle.rules.specs.Limits.{max-words, max-instrs, max-slot-offset}
 use Rattle.rules.specs.Refusals as Refusals
-use Rattle.a64.specs.declared.emitter.A64Emitter.{A64Emitter}
-use Rattle.a64.specs.Emitter.{bytes}
-use Rattle.a64.specs.Parts.{block-words, written, Written}
-use Rattle.a64.proofs.Emission.{length-bytes}
+use Rattle.a64_emitter.specs.declared.A64Emitter.{A64Emitter}
+use Rattle.a64_emitter.specs.Emitter.{bytes}
+use Rattle.a64_emitter.specs.Parts.{block-words, written, Written}
+use Rattle.a64_emitter.proofs.Emission.{length-bytes}
 use Rattle.emit_native.specs.declared.Host.{Host}
 use Rattle.emit_native.proofs.Size.{by}
 use Rattle.jit_arm64.specs.declared.block.NativeBlock.{NativeBlock}

@@ -6,7 +6,7 @@ use mathlib.Core.List.{List, [], _++_, append-assoc, append-nil, flatten}
 use lib.ListN.{length, take}
 use Rattle.rules.specs.Limits.{inline-words, end-words, instr-words, max-words, max-instrs}
 use Rattle.word.specs.Word.{add}
-use Rattle.a64.specs.Parts.{held, Added}
+use Rattle.a64_emitter.specs.Parts.{held, Added}
 use Rattle.emit_native.specs.declared.EmitFlow.{EmitFlow}
 use Rattle.emit_native.specs.declared.EmitFlow.the-variants.{Continue, Terminate, None}
 use Rattle.emit_native.specs.declared.Emitted.{Emitted}

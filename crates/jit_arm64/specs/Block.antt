@@ -12,8 +12,8 @@ use Rattle.emit_native.specs.declared.EmitFlow.{EmitFlow}
 use Rattle.emit_native.specs.declared.EmitFlow.the-variants.{Continue, Terminate, None}
 use Rattle.jit_arm64.specs.declared.block.Stop.{Stop}
 use Rattle.jit_arm64.specs.declared.block.Stop.the-variants.{Limit, Ended, Helper, Uncovered, NotFetched}
-use Rattle.a64.specs.Writers.{ret}
-use Rattle.a64.specs.Emitter.{bytes}
+use Rattle.a64_emitter.specs.Writers.{ret}
+use Rattle.a64_emitter.specs.Emitter.{bytes}
 use Rattle.emit_native.specs.Calls.{Call, emit, mov-imm64, words, Emission}
 use Rattle.isa.specs.Decode.{decode32}
 use Rattle.instr16.specs.Instr16.{emit-native-instr16}

@@ -3,13 +3,13 @@ ghost use mathlib.Core.Path.{_≡_};
 ghost use mathlib.Core.List.{_++_};
 ghost use Prim.Native.Nat.{ℕ, _≤_, min};
 ghost use Rattle.rules.specs.Limits.{max-instrs, max-slot-offset};
-ghost use Rattle.a64.specs.Parts.{held, emitted-all};
+ghost use Rattle.a64_emitter.specs.Parts.{held, emitted-all};
 ghost use Rattle.emit_native.specs.Calls as Calls;
 ghost use Rattle.jit_arm64.specs.Block.{emit-native, emit-term-helper, return-calls, end-calls, whole-walk};
 ghost use Rattle.jit_arm64.specs.Parts.{Narrow, Compiled, BlockOf, first-refusal};
 use crate::fetch::fetch;
-use a64::A64Emitter;
-use a64::InstrEmitter;
+use a64_emitter::A64Emitter;
+use a64_emitter::InstrEmitter;
 use emit_native::EmitFlow;
 use emit_native::Emitted;
 use emit_native::Host;
@@ -139,7 +139,7 @@ pub fn compile_native_block(guest: &[u8], start: u64, limit: u32, host: Host) ->
         if let EmitFlow::None = flow {
             let left = out.em;
             let helper = emit_term_helper(left, host, pc, found.instr, n);
-            len = a64::append_at(&mut em.words, len, &helper.em.words, helper.em.len);
+            len = a64_emitter::append_at(&mut em.words, len, &helper.em.words, helper.em.len);
             let taken = helper.flow;
             if let EmitFlow::Terminate = taken {
                 n += 1;
@@ -147,7 +147,7 @@ pub fn compile_native_block(guest: &[u8], start: u64, limit: u32, host: Host) ->
             }
             break Stop::Uncovered;
         }
-        len = a64::append_at(&mut em.words, len, &out.em.words, out.em.len);
+        len = a64_emitter::append_at(&mut em.words, len, &out.em.words, out.em.len);
         i += found.size;
         n += 1;
         if let EmitFlow::Terminate = flow {

@@ -1,4 +1,4 @@
--- Document 01's refusals by number: the one table. The definitions and the code name them; tools/refusals holds the header and the crate to it.
+-- Document 01's refusals by number: the one table. The definitions and the code name them; tools/numbers holds the header and the crate to it.
 use Prim.Native.Nat.{ℕ}
 
 abbrev pub accepted : ℕ

@@ -1,6 +1,3 @@
 pub mod Tables
 pub mod Steps
-pub mod Fetching
-pub mod Running
-pub mod Refusing
 pub mod Examples

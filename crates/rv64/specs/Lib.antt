@@ -2,5 +2,4 @@ pub mod Alu
 pub mod Decode
 pub mod Compressed
 pub mod Execute
-pub mod Run
 pub mod Parts

@@ -1,6 +1,5 @@
-// RV64IMC by the RISC-V Unprivileged ISA: decoding, one instruction, a block's run.
+// RV64IMC by the RISC-V Unprivileged ISA: decoding, and what one instruction does.
 pub mod alu;
 pub mod compressed;
 pub mod decode;
 pub mod execute;
-pub mod run;

@@ -1,6 +1,6 @@
 // Replays what a RISC-V machine was recorded to do, and document 01's own rules (machines/README.md has the formats).
-use rv64::run;
-use rv64::run::Hart;
+use rv64_run::run;
+use rv64_run::run::Hart;
 
 // A field that only the rules' cases have; 0 in the others.
 fn read_rule(fd: i32, rules: bool) -> u8 {

@@ -9,7 +9,7 @@ use Rattle.emit_native.specs.declared.Host.{Host}
 use Rattle.isa.specs.Isa.{OPCODE-LOAD, OPCODE-STORE, OPCODE-LOAD-FP, OPCODE-STORE-FP, OPCODE-SYSTEM, OPCODE-AMO, F3-LB, F3-LH, F3-LW, F3-LD, F3-LBU, F3-LHU, F3-LWU, F3-SB, F3-SH, F3-SW, F3-SD}
 use Rattle.emit_native.specs.Hart.{MEM-OP-LB, MEM-OP-LH, MEM-OP-LW, MEM-OP-LD, MEM-OP-LBU, MEM-OP-LHU, MEM-OP-LWU, MEM-OP-SB, MEM-OP-SH, MEM-OP-SW, MEM-OP-SD}
 use Rattle.isa.specs.Decode.{imm-i, imm-s, c-funct3, c-op}
-use Rattle.a64.specs.Writers.{add-x, ldr-x, str-x, mov-x, sub-sp-imm, add-sp-imm, blr, ret}
+use Rattle.a64_emitter.specs.Writers.{add-x, ldr-x, str-x, mov-x, sub-sp-imm, add-sp-imm, blr, ret}
 use Rattle.emit_native.specs.Calls.{Call, emit, mov-imm64, load, if-not-0, Emission, terminate}
 use Rattle.emit_native.specs.Calls as Calls
 

@@ -20,7 +20,7 @@ use Rattle.rv64.specs.Execute.{read, write, exec}
 use Rattle.rv64.specs.Compressed as C
 use Rattle.emit_native.specs.declared.EmitFlow.{EmitFlow}
 use Rattle.emit_native.specs.Hart.{not-1}
-use Rattle.a64.specs.Writers.{and-x, orr-x}
+use Rattle.a64_emitter.specs.Writers.{and-x, orr-x}
 use Rattle.emit_native.specs.Calls.{emit, mov-imm64, load, store, Emission, continue, terminate, none, calls-first, store-rd}
 use Rattle.isa.specs.Decode as Rust
 use Rattle.instr16.specs.Instr16 as I16

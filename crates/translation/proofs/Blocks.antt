@@ -16,14 +16,14 @@ use Rattle.le.proofs.Laws.{load-lt, load-add}
 use Rattle.isa.specs.declared.decode.Decoded32.{Decoded32}
 use Rattle.rv64.specs.declared.decode.Instr.{Instr}
 use Rattle.rv64.specs.declared.execute.Flow.{Flow}
-use Rattle.rv64.specs.declared.run.Hart.{Hart}
-use Rattle.rv64.specs.declared.run.Fetched as RF
-use Rattle.rv64.specs.declared.run.Stop as RS
-use Rattle.rv64.specs.declared.run.Ran.{Ran}
+use Rattle.rv64_run.specs.declared.run.Hart.{Hart}
+use Rattle.rv64_run.specs.declared.run.Fetched as RF
+use Rattle.rv64_run.specs.declared.run.Stop as RS
+use Rattle.rv64_run.specs.declared.run.Ran.{Ran}
 use Rattle.rv64.specs.Execute.{write, exec}
 use Rattle.rv64.specs.Decode as D
 use Rattle.rv64.specs.Compressed as C
-use Rattle.rv64.specs.Run as Rv64
+use Rattle.rv64_run.specs.Run as Rv64
 use Rattle.emit_native.specs.declared.EmitFlow.{EmitFlow}
 use Rattle.emit_native.specs.declared.Host.{Host}
 use Rattle.jit_arm64.specs.declared.block.Stop.{Stop}

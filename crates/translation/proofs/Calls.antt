@@ -15,17 +15,18 @@ use Rattle.rules.specs.Limits.{max-slot-offset}
 use Rattle.word.specs.Word.{wrap, sext, sign, magnitude, signed, asr, sdiv, mulh, sext128}
 use Rattle.word.proofs.Laws.{product-below}
 use Rattle.le.specs.Le as Le
-use Rattle.a64.specs.declared.forms.Op.{Op}
-use Rattle.a64.specs.declared.forms.Op.the-variants.{Add, Sub, And, Orr, Eor, Lslv, Lsrv, Asrv, Mul, Smulh, Umulh, Udiv, Sdiv}
-use Rattle.a64.specs.declared.forms.Form.{Form}
-use Rattle.a64.specs.declared.forms.Form.the-variants.{DataProcessing, Ldr, Str, Movz, Movk, Cmp, Csel, Sxtw, AddSp, SubSp, Blr, Ret, Unreadable}
+use Rattle.a64.specs.declared.Op.{Op}
+use Rattle.a64.specs.declared.Op.the-variants.{Add, Sub, And, Orr, Eor, Lslv, Lsrv, Asrv, Mul, Smulh, Umulh, Udiv, Sdiv}
+use Rattle.a64.specs.declared.Form.{Form}
+use Rattle.a64.specs.declared.Form.the-variants.{DataProcessing, Ldr, Str, Movz, Movk, Cmp, Csel, Sxtw, AddSp, SubSp, Blr, Ret, Unreadable}
 use Rattle.a64_exec.specs.declared.state.Flags.{Flags}
 use Rattle.a64.specs.Forms.{decode}
 use Rattle.a64_exec.specs.Exec.{State, machine, op-value, compared, holds, address, reaches, next, exec}
-use Rattle.a64_run.proofs.Straight.{Straight, straight-append, one-form, constant-goes}
+use Rattle.a64_run.proofs.Straight.{Straight, straight-append, one-form}
 use Rattle.a64_exec.proofs.Slots.{Apart, Slots, slot-stored}
 use Rattle.emit_native.specs.Calls.{Call, emit, mov-imm64, load, store, reg-off, rust, call-words, words-in, words}
 use Rattle.translation.proofs.Registers.{upd, tab, length-tab, set-tab, operand-tab}
+use Rattle.translation.proofs.Constants.{constant-goes}
 
 -- ---- the model
 

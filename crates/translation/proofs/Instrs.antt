@@ -20,7 +20,7 @@ use Rattle.rv64.specs.Alu.{value, taken}
 use Rattle.rv64.specs.Execute.{read, write, exec}
 use Rattle.emit_native.specs.declared.EmitFlow.{EmitFlow}
 use Rattle.emit_native.specs.Hart.{C-EQ, C-NE, C-CS, C-CC, C-GE, C-LT, not-1}
-use Rattle.a64.specs.Writers.{add-x, and-x, cmp-x, csel-x}
+use Rattle.a64_emitter.specs.Writers.{add-x, and-x, cmp-x, csel-x}
 use Rattle.emit_native.specs.Calls.{Call, emit, mov-imm64, load, store, if-not-0, Emission, continue, terminate, none, calls-first, store-rd, then-store-rd}
 use Rattle.translation.proofs.Calls.{Model, form-step, call-step, calls-run, scratch, form-fits, written, fits, keeps, all-fit, all-keep, AllIn, Kept, and-l, and-r}
 use Rattle.translation.proofs.Alus.{body, slliw, srliw, sraiw, Computes, body-law, not-not, not-leb}

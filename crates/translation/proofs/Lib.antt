@@ -1,4 +1,6 @@
 pub mod Registers
+pub mod Writing
+pub mod Constants
 pub mod Calls
 pub mod Remainders
 pub mod Alus

@@ -15,16 +15,16 @@ use Rattle.le.specs.Le.{Bytes}
 use Rattle.le.proofs.Laws.{load-lt}
 use Rattle.le.proofs.Lists.{Fit, length-all-bytes, numbers-bytes}
 use Rattle.a64.specs.Forms.{decode}
-use Rattle.a64.specs.Emitter.{bytes}
+use Rattle.a64_emitter.specs.Emitter.{bytes}
 use Rattle.a64_run.specs.declared.run.End.{End}
 use Rattle.a64_exec.specs.Exec.{State, reg, machine, exec}
 use Rattle.a64_run.specs.Run as A64
 use Rattle.a64_run.proofs.Straight.{Straight, straight-run, straight-lt}
 use Rattle.a64_exec.proofs.Slots.{Apart}
-use Rattle.rv64.specs.Run as Rv64
+use Rattle.rv64_run.specs.Run as Rv64
 use Rattle.emit_native.specs.declared.Host.{Host}
 use Rattle.jit_arm64.specs.declared.block.Stop.{Stop}
-use Rattle.a64.specs.Writers.{ret}
+use Rattle.a64_emitter.specs.Writers.{ret}
 use Rattle.emit_native.specs.Calls.{Call, emit, mov-imm64, words-in, words, reg-off, Emission}
 use mathlib.Core.Option.{Option, none, some}
 use Rattle.emit_native.specs.declared.EmitFlow.{EmitFlow}

@@ -10,8 +10,8 @@ use Rattle.le.specs.Le.{Bytes, load}
 use Rattle.a64_run.specs.declared.run.End.{End}
 use Rattle.a64_exec.specs.Exec.{State, reg}
 use Rattle.a64_run.specs.Run as A64
-use Rattle.rv64.specs.declared.run.Ran as RV
-use Rattle.rv64.specs.Run as Rv64
+use Rattle.rv64_run.specs.declared.run.Ran as RV
+use Rattle.rv64_run.specs.Run as Rv64
 
 -- slot n: the eight bytes at slot offset plus 8 n plus the X0 of entry, modulo 2 ^ 64
 abbrev pub slot : State → ℕ → ℕ → ℕ

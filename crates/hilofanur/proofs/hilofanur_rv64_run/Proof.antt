@@ -1,7 +1,7 @@
 use mathlib.Core.Path.{_∙_, ap}
 use borrow.Author.Tests.{ne-eqb}
-use Rattle.rv64.specs.declared.run.Hart.{Hart}
-use Rattle.rv64.specs.Run.{answer}
+use Rattle.rv64_run.specs.declared.run.Hart.{Hart}
+use Rattle.rv64_run.specs.Run.{answer}
 use borrow.Author.Needs.{needs}
 use Rattle.hilofanur.proofs.hilofanur_rv64_run.Statement.{statement}
 use Rattle.hilofanur.proofs.hilofanur_rv64_run.Tie as tie

@@ -1,7 +1,7 @@
 use Rattle.instr32.specs.Instr32.{jal}
 use Rattle.isa.proofs.Decoding.{imm-j-is}
 use mathlib.Core.List.{map-append}
-use Rattle.a64.proofs.Emission.{emitted-all-append}
+use Rattle.a64_emitter.proofs.Emission.{emitted-all-append}
 use borrow.Author.Needs.{needs}
 use Rattle.instr32.proofs.emit_jal.Statement.{statement}
 use Rattle.instr32.proofs.emit_jal.Tie as tie

@@ -1,5 +1,5 @@
 use Rattle.instr32.specs.Instr32.{jalr}
-use Rattle.a64.specs.Writers.{add-x, and-x}
+use Rattle.a64_emitter.specs.Writers.{add-x, and-x}
 use Rattle.emit_native.specs.Calls.{load, store, emit, mov-imm64, if-not-0, terminate}
 use Rattle.isa.proofs.Decoding.{imm-i-is}
 use Rattle.emit_native.proofs.Chains.{first}
@@ -7,7 +7,7 @@ use mathlib.Core.List.{[], _∷_}
 use Rattle.word.specs.Word.{add}
 use Rattle.emit_native.specs.Hart.{not-1}
 use Rattle.isa.specs.Decode.{imm-i}
-use Rattle.a64.specs.Parts.{held}
+use Rattle.a64_emitter.specs.Parts.{held}
 use borrow.Author.Needs.{needs}
 use Rattle.instr32.proofs.emit_jalr.Statement.{statement}
 use Rattle.instr32.proofs.emit_jalr.Tie as tie

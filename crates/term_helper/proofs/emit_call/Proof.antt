@@ -1,5 +1,5 @@
 use mathlib.Core.List.{map-append}
-use Rattle.a64.proofs.Emission.{emitted-all-append}
+use Rattle.a64_emitter.proofs.Emission.{emitted-all-append}
 use borrow.Author.Needs.{needs}
 use Rattle.term_helper.proofs.emit_call.Statement.{statement}
 use Rattle.term_helper.proofs.emit_call.Tie as tie

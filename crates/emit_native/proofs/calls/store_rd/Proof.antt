@@ -3,11 +3,11 @@ use mathlib.Core.Path.{_≡_, refl}
 use mathlib.Core.List.{List}
 use lib.Dec.{eqb}
 use borrow.Author.Needs.{needs}
-use Rattle.a64.specs.Parts.{emitted, emitted-if, emitted-all}
-use Rattle.a64.proofs.Emission.{emitted-none}
+use Rattle.a64_emitter.specs.Parts.{emitted, emitted-if, emitted-all}
+use Rattle.a64_emitter.proofs.Emission.{emitted-none}
 use Rattle.emit_native.specs.declared.EmitFlow.{EmitFlow}
 use Rattle.emit_native.specs.declared.EmitFlow.the-variants.{Continue, Terminate, None}
-use Rattle.a64.specs.Writers.{str-x}
+use Rattle.a64_emitter.specs.Writers.{str-x}
 use Rattle.emit_native.specs.Calls.{groups, reg-off, store-rd}
 use Rattle.emit_native.specs.Parts.{stores}
 use Rattle.emit_native.proofs.Size.{by}

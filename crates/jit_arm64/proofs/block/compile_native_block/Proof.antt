@@ -2,7 +2,7 @@ use native.Mathlib.Omega.{arith}
 use borrow.Author.Needs.{needs}
 use Prim.Native.Nat.{_-_}
 use mathlib.Core.Logic.{⊎-elim}
-use Rattle.a64.specs.Parts.{held, block-words}
+use Rattle.a64_emitter.specs.Parts.{held, block-words}
 use Rattle.jit_arm64.specs.Block.{walk, whole-walk}
 use Rattle.jit_arm64.proofs.Flows.{goes-on, not-terminate}
 use Rattle.jit_arm64.proofs.Walking.{Walking, AtEnd, begin, at-limit, not-fetched, size-4, on, by-end, by-helper, uncovered}
@@ -11,9 +11,9 @@ use Rattle.jit_arm64.proofs.block.compile_native_block.Statement.{state
 use Rattle.jit_arm64.proofs.block.compile_native_block.Tie as tie
 use Rattle.jit_arm64.proofs.block.compile_native_block.Reads as reads
 use Rattle.jit_arm64.proofs.block.compile_native_block.Lts as lts
-use Rattle.a64.proofs.emitter.A64Emitter.append.Reads as append-reads
-use Rattle.a64.proofs.emitter.A64Emitter.new.Reads as new-reads
-use Rattle.a64.proofs.append_at.Reads as append-at-reads
+use Rattle.a64_emitter.proofs.A64Emitter.append.Reads as append-reads
+use Rattle.a64_emitter.proofs.A64Emitter.new.Reads as new-reads
+use Rattle.a64_emitter.proofs.append_at.Reads as append-at-reads
 use Rattle.jit_arm64.proofs.block.clamped.Reads as clamped-reads
 use Rattle.jit_arm64.proofs.block.emit_end.Reads as emit-end-reads
 use Rattle.jit_arm64.proofs.block.emit_native.Reads as emit-native-reads

@@ -1,0 +1,11 @@
+use borrow.Author.Needs.{needs}
+use Rattle.a64_emitter.specs.Parts.{held}
+use Rattle.a64_emitter.proofs.InstrEmitter.mov_imm64.Statement.{statement}
+use Rattle.a64_emitter.proofs.InstrEmitter.mov_imm64.Tie as tie
+
+returns : tie.Need-returns
+unfolding held
+returns c = c .mov-imm64-at .ensures .holds
+
+pub mov-imm64-spec : {M : Type 1} → statement M
+mov-imm64-spec = tie.close (tie.spec (λ c κs. search needs) returns)

@@ -1,0 +1,3 @@
+pub mod Writers
+pub mod Emitter
+pub mod Parts

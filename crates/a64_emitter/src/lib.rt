@@ -1,0 +1,247 @@
+// `A64Emitter` of hart.rs: its word writers, and the emitters of an instruction's words and of a block's.
+ghost use mathlib.Core.Path.{_≡_};
+ghost use Prim.Native.Nat.{ℕ, _+_, _<_, _≤_, min};
+ghost use mathlib.Core.List.{[], _∷_};
+ghost use lib.ListN.{length, take};
+ghost use Rattle.le.specs.Le.{store};
+ghost use Rattle.a64_emitter.specs.Parts.{held, block-words, emitted-in, emitted, emitted-if, Added, Written};
+ghost use Rattle.a64_emitter.specs.Writers as Writers;
+ghost use Rattle.rules.specs.Limits.{instr-words, max-words};
+
+mod writers;
+
+use rules::INSTR_WORDS;
+use rules::MAX_WORDS;
+
+// The words of a block, with their count.
+pub struct A64Emitter {
+    pub words: [u32; MAX_WORDS],
+    pub len: usize,
+}
+
+// The words of one instruction, or of the end of a block, with their count.
+pub struct InstrEmitter {
+    pub words: [u32; INSTR_WORDS],
+    pub len: usize,
+}
+
+// One word after the first `at`, or nothing where it does not fit; the new count.
+fn emit_at(words: &mut [u32; INSTR_WORDS], at: usize, w: u32) -> usize
+    requires { ⌜ length (now words) ≡ instr-words ⌝ }
+    ensures { λ r. ⌜ Added instr-words (now (words .entry)) at (now (words .exit)) r (w ∷ []) ⌝ }
+{
+    if at < INSTR_WORDS {
+        words[at] = w;
+        return at + 1;
+    }
+    at
+}
+
+// The same where the test holds.
+fn emit_at_if(words: &mut [u32; INSTR_WORDS], at: usize, test: bool, w: u32) -> usize
+    requires { ⌜ length (now words) ≡ instr-words ⌝ }
+    ensures { λ r. ⌜ Added instr-words (now (words .entry)) at (now (words .exit)) r (emitted-if «test» w) ⌝ }
+{
+    if test {
+        return emit_at(words, at, w);
+    }
+    at
+}
+
+// MOVK of halfword hw, where it is not 0.
+fn upper_at(words: &mut [u32; INSTR_WORDS], at: usize, rd: u8, hw: u8, p: u32) -> usize
+    requires { ⌜ (length (now words) ≡ instr-words) × (rd < 32) × (hw < 4) × (p < 65536) ⌝ }
+    ensures { λ r. ⌜ Added instr-words (now (words .entry)) at (now (words .exit)) r (Writers.movk rd hw p) ⌝ }
+{
+    if p == 0 {
+        at
+    } else {
+        emit_at(
+            words,
+            at,
+            0xF280_0000 + (hw as u32) * 0x20_0000 + p * 32 + rd as u32,
+        )
+    }
+}
+
+// 1 where p is not 0, which is how many words it takes.
+fn upper_count(p: u32) -> usize
+    ensures { λ r. ⌜ (r ≤ 1) × ((rd hw : ℕ) → length (Writers.movk rd hw p) ≡ r) ⌝ }
+{
+    if p == 0 { 0 } else { 1 }
+}
+
+// A constant after the first `at`, or nothing where its words do not all fit; the new count.
+fn mov_imm64_at(words: &mut [u32; INSTR_WORDS], at: usize, rd: u8, val: u64) -> usize
+    requires { ⌜ (length (now words) ≡ instr-words) × (rd < 32) ⌝ }
+    ensures { λ r. ⌜ Added instr-words (now (words .entry)) at (now (words .exit)) r (Writers.mov-imm64 rd val) ⌝ }
+{
+    let lo = (val % 0x1_0000) as u32;
+    let p1 = (val / 0x1_0000 % 0x1_0000) as u32;
+    let p2 = (val / 0x1_0000_0000 % 0x1_0000) as u32;
+    let p3 = (val / 0x1_0000_0000_0000 % 0x1_0000) as u32;
+    let n = 1 + upper_count(p1) + upper_count(p2) + upper_count(p3);
+    if INSTR_WORDS - n < at {
+        return at;
+    }
+    let a = emit_at(words, at, 0xD280_0000 + lo * 32 + rd as u32);
+    let b = upper_at(words, a, rd, 1, p1);
+    let c = upper_at(words, b, rd, 2, p2);
+    upper_at(words, c, rd, 3, p3)
+}
+
+// How many words an instruction's emitter holds: its count, or all where that is more.
+fn instr_count(len: usize) -> usize
+    ensures { λ r. ⌜ r ≡ min len instr-words ⌝ }
+{
+    if len < INSTR_WORDS { len } else { INSTR_WORDS }
+}
+
+// The same of a block's.
+fn block_count(len: usize) -> usize
+    ensures { λ r. ⌜ r ≡ min len max-words ⌝ }
+{
+    if len < MAX_WORDS { len } else { MAX_WORDS }
+}
+
+// An instruction's words after the first `at` of a block, or nothing where they do not all fit; the new count.
+// The array is lent: the block's loop calls this for each instruction.
+pub fn append_at(
+    words: &mut [u32; MAX_WORDS],
+    at: usize,
+    part: &[u32; INSTR_WORDS],
+    len: usize,
+) -> usize
+    requires { ⌜ (length (now words) ≡ max-words) × (length (now part) ≡ instr-words) ⌝ }
+    ensures { λ r. ⌜ Added max-words (now (words .entry)) at (now (words .exit)) r (take len (now (part .entry))) ⌝ }
+{
+    // as of C.NOP
+    if len == 0 {
+        return at;
+    }
+    let n = instr_count(len);
+    if MAX_WORDS - n < at {
+        return at;
+    }
+    let mut i = 0;
+    while i < n {
+        words[at + i] = part[i];
+        i += 1;
+    }
+    at + n
+}
+
+// One word as bytes, lowest first.
+fn write_word(out: &mut [u8], at: usize, w: u32)
+    requires { ⌜ at + 4 ≤ length (now out) ⌝ }
+    ensures { λ r. ⌜ now (out .exit) ≡ store 4 (now (out .entry)) at w ⌝ }
+{
+    out[at] = (w % 256) as u8;
+    out[at + 1] = (w / 0x100 % 256) as u8;
+    out[at + 2] = (w / 0x1_0000 % 256) as u8;
+    out[at + 3] = (w / 0x100_0000 % 256) as u8;
+}
+
+impl InstrEmitter {
+    pub fn new() -> Self
+        ensures { λ r. ⌜ held r ≡ [] ⌝ }
+    {
+        InstrEmitter {
+            words: [0u32; INSTR_WORDS],
+            len: 0,
+        }
+    }
+
+    // One word more, or unchanged where it does not fit.
+    pub fn emit(mut self, w: u32) -> Self
+        ensures { λ r. ⌜ held r ≡ emitted (held self) (w ∷ []) ⌝ }
+    {
+        let at = self.len;
+        let n = emit_at(&mut self.words, at, w);
+        self.len = n;
+        self
+    }
+
+    // One word more where the test holds, or unchanged where it does not or the word does not fit.
+    pub fn emit_if(mut self, test: bool, w: u32) -> Self
+        ensures { λ r. ⌜ held r ≡ emitted (held self) (emitted-if «test» w) ⌝ }
+    {
+        let at = self.len;
+        let n = emit_at_if(&mut self.words, at, test, w);
+        self.len = n;
+        self
+    }
+
+    // A constant more, or unchanged where its words do not all fit.
+    pub fn mov_imm64(mut self, rd: u8, val: u64) -> Self
+        requires { ⌜ rd < 32 ⌝ }
+        ensures { λ r. ⌜ held r ≡ emitted (held self) (Writers.mov-imm64 rd val) ⌝ }
+    {
+        let at = self.len;
+        let n = mov_imm64_at(&mut self.words, at, rd, val);
+        self.len = n;
+        self
+    }
+}
+
+impl A64Emitter {
+    pub fn new() -> Self
+        ensures { λ r. ⌜ block-words r ≡ [] ⌝ }
+    {
+        A64Emitter {
+            words: [0u32; MAX_WORDS],
+            len: 0,
+        }
+    }
+
+    // The words of an instruction more, or unchanged where they do not all fit.
+    pub fn append(mut self, part: InstrEmitter) -> Self
+        ensures { λ r. ⌜ block-words r ≡ emitted-in max-words (block-words self) (held part) ⌝ }
+    {
+        let at = self.len;
+        let n = append_at(&mut self.words, at, &part.words, part.len);
+        self.len = n;
+        self
+    }
+
+    // One word more, or unchanged where it does not fit.
+    pub fn emit(mut self, w: u32) -> Self
+        ensures { λ r. ⌜ block-words r ≡ emitted-in max-words (block-words self) (w ∷ []) ⌝ }
+    {
+        let at = self.len;
+        if at < MAX_WORDS {
+            self.words[at] = w;
+            self.len = at + 1;
+            return self;
+        }
+        self
+    }
+
+    // A constant more, or unchanged where its words do not all fit.
+    pub fn mov_imm64(mut self, rd: u8, val: u64) -> Self
+        requires { ⌜ rd < 32 ⌝ }
+        ensures { λ r. ⌜ block-words r ≡ emitted-in max-words (block-words self) (Writers.mov-imm64 rd val) ⌝ }
+    {
+        let part = InstrEmitter::new().mov_imm64(rd, val);
+        let at = self.len;
+        let n = append_at(&mut self.words, at, &part.words, part.len);
+        self.len = n;
+        self
+    }
+
+    // The words as bytes at the front of `out`, where they fit; how many bytes they are.
+    pub fn finish(self, out: &mut [u8]) -> usize
+        ensures { λ r. ⌜ Written (block-words self) (now (out .entry)) r (now (out .exit)) ⌝ }
+    {
+        let n = block_count(self.len);
+        if out.len() < 4 * n {
+            return 4 * n;
+        }
+        let mut i = 0;
+        while i < n {
+            write_word(out, 4 * i, self.words[i]);
+            i += 1;
+        }
+        4 * n
+    }
+}

@@ -1,0 +1,4 @@
+pub mod Fetching
+pub mod Running
+pub mod Refusing
+pub mod Examples

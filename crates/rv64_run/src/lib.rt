@@ -1,0 +1,2 @@
+// The run of a block by the RISC-V Unprivileged ISA.
+pub mod run;
