@@ -1,5 +1,5 @@
 -- Worked examples of the ISA manual, by computation.
-use mathlib.Core.Bool.{true, false, xor}
+use mathlib.Core.Bool.{xor}
 use mathlib.Core.Path.{_≡_, refl}
 use Prim.Native.Nat.{_-_, _^_}
 use Rattle.word.specs.Word.{sdiv, srem, magnitude, signed, mulh, mulhsu, sext128}
@@ -9,7 +9,6 @@ use Rattle.rv64.specs.declared.alu.Cond.{Cond}
 use Rattle.rv64.specs.declared.decode.Instr.{Instr}
 use Rattle.rv64.specs.Alu as N
 use Rattle.rv64.specs.Decode as D
-use Rattle.rv64.specs.Compressed as C
 
 -- ---- encodings: NOP, RET, SLTIU with -1, LUI 0x80000, JAL to itself, SRAI by 63, BGEU; FENCE, FENCE.I, funct3 2 of theirs;
 -- LW, SYSTEM, SLLI with bit 26
@@ -28,19 +27,6 @@ decoded32 : (D.decode32 0x00000013 ≡ Instr.OpImm Alu.Add 0 0 0)
     × (D.decode32 0x04001013 ≡ Instr.Uncovered)
 unfolding D.decode32 D.by-class class-of D.op-imm D.imms D.shift-imm D.shifts D.branch D.branches D.misc-mem D.fences D.below
 decoded32 = (refl, refl, refl, refl, refl, refl, refl, refl, refl, refl, refl, refl, refl)
-
--- C.NOP, C.LI -1, C.JR, C.JALR, C.EBREAK with and without the flag, C.LWSP with rd 0, the reserved C.ADDW-group, all zero
-decoded16 : (C.decode16 false 0x0001 ≡ Instr.OpImm Alu.Add 0 0 0)
-    × (C.decode16 false 0x557D ≡ Instr.OpImm Alu.Add 10 0 (2 ^ 64 - 1))
-    × (C.decode16 false 0x8082 ≡ Instr.Jalr 0 1 0)
-    × (C.decode16 false 0x9082 ≡ Instr.Jalr 1 1 0)
-    × (C.decode16 true 0x9002 ≡ Instr.Nop)
-    × (C.decode16 false 0x9002 ≡ Instr.Uncovered)
-    × (C.decode16 false 0x4002 ≡ Instr.Helper)
-    × (C.decode16 false 0x9C41 ≡ Instr.Uncovered)
-    × (C.decode16 false 0x0000 ≡ Instr.Uncovered)
-unfolding C.decode16 C.quadrants C.quadrant0 C.table0 C.quadrant1 C.table1 C.quadrant2 C.table2 C.unless0 C.misc-alu C.misc-alus C.arith C.ariths C.cr C.crs C.jr-mv C.ebreak-jalr-add
-decoded16 = (refl, refl, refl, refl, refl, refl, refl, refl, refl)
 
 -- ---- SEQZ, SEXT.W, and M's table of division by 0 and overflow, at both widths
 values : (N.value Alu.Sltu 0 1 ≡ 1)

@@ -9,7 +9,7 @@ use borrow.Author.Tests.{ne-eqb}
 use Rattle.isa.specs.declared.classes.Class.{Class}
 use Rattle.isa.specs.Classes.{class-of}
 use Rattle.word.specs.Word.{add}
-use Rattle.isa.specs.Formats.{inst, rd, rs1, rs2, funct3, b-imm, high-reg, low-reg}
+use Rattle.isa.specs.Formats.{inst, rd, rs1, rs2, funct3, b-imm}
 use Rattle.rv64.specs.declared.alu.Alu.{Alu}
 use Rattle.rv64.specs.declared.alu.Cond.{Cond}
 use Rattle.rv64.specs.declared.decode.Instr.{Instr}
@@ -17,7 +17,6 @@ use Rattle.rv64.specs.declared.execute.Effect.{Effect}
 use Rattle.rv64.specs.declared.execute.Computed.{Computed}
 use Rattle.rv64.specs.Alu.{value, taken}
 use Rattle.rv64.specs.Decode as D
-use Rattle.rv64.specs.Compressed as C
 use Rattle.rv64.specs.Execute.{Step, exec, read, write}
 use Rattle.rv64.specs.Parts as S
 use Rattle.rv64.proofs.Tables.{Missed, both, either}
@@ -45,7 +44,7 @@ unfolding S.put
 put-sets (Computed.Value v) rd q = q
 put-sets Computed.Reserved rd q = omega N.arith
 
-pick-sets : (b : Bool) (e f : Effect) → S.sets e < 32 → S.sets f < 32 → S.sets (cond b e f) < 32
+pub pick-sets : (b : Bool) (e f : Effect) → S.sets e < 32 → S.sets f < 32 → S.sets (cond b e f) < 32
 pick-sets true e f p q = p
 pick-sets false e f p q = q
 
@@ -56,7 +55,7 @@ table-sets make other ((k, a) ∷ t) n p q = pick-sets (eqb n k) _ _ (p a) (tabl
 module _ (w pc : ℕ) (x : List ℕ) where
   -- what a table computes of a and b, put in rd, against the instructions that it makes
   module _ (n rd a b : ℕ) (r : rd < 32) (t : D.Table Alu) (k : ℕ) (make : Alu → Instr) (p : (u : Alu) → S.applied (S.put (Computed.Value (value u a b)) rd) (add pc n) x ≡ exec (make u) n pc x) where
-    table : (other : Computed) (rest : Instr) → S.applied (S.put other rd) (add pc n) x ≡ exec rest n pc x → S.Gives (S.put (S.computed t k a b other) rd) (D.lookup t k make rest) n pc x
+    pub table : (other : Computed) (rest : Instr) → S.applied (S.put other rd) (add pc n) x ≡ exec rest n pc x → S.Gives (S.put (S.computed t k a b other) rd) (D.lookup t k make rest) n pc x
     table other rest q =
         (put-sets (S.computed t k a b other) rd r, both (λ (c : Computed). S.applied (S.put c rd) (add pc n) x) (λ (i : Instr). exec i n pc x) (λ (u : Alu). Computed.Value (value u a b)) make t k p q)
 
@@ -116,13 +115,3 @@ module _ (w pc : ℕ) (x : List ℕ) where
         simp (ne-eqb _ _ (h .1), ne-eqb _ _ (h .0 .1), ne-eqb _ _ (h .0 .0 .1), ne-eqb _ _ (h .0 .0 .0 .1), ne-eqb _ _ (h .0 .0 .0 .0 .1), ne-eqb _ _ (h .0 .0 .0 .0 .0 .1), ne-eqb _ _ (h .0 .0 .0 .0 .0 .0 .1), ne-eqb _ _ (h .0 .0 .0 .0 .0 .0 .0 .1), ne-eqb _ _ (h .0 .0 .0 .0 .0 .0 .0 .0 .1))
             (either done-by done (eqb (w % 128) 0x03) (load .1) (either done-by done (eqb (w % 128) 0x07) refl (either done-by done (eqb (w % 128) 0x0F) (fence .1) (either done-by done (eqb (w % 128) 0x23) (store .1) (either done-by done (eqb (w % 128) 0x27) refl (either done-by done (eqb (w % 128) 0x2F) refl (either done-by done (eqb (w % 128) 0x73) refl refl))))))),
       )
-
-  -- C.SUB and the others of its group
-  pub arith : S.Gives (S.put (S.computed C.ariths (inst 12 12 w * 4 + inst 6 5 w) (read x (high-reg w)) (read x (low-reg w)) Computed.Reserved) (high-reg w)) (C.arith w) 2 pc x
-  unfolding S.put S.applied exec C.arith
-  arith = table 2 (high-reg w) _ _ (omega N.arith) C.ariths (inst 12 12 w * 4 + inst 6 5 w) (C.reg w) (λ k. refl) _ _ refl
-
-  pub unless : (n : ℕ) (i : Instr) (e : Effect) → S.Gives e i 2 pc x → S.Gives (cond (eqb n 0) Effect.Uncovered e) (C.unless0 n i) 2 pc x
-  unfolding C.unless0 S.applied exec
-  unless n i e p =
-      (pick-sets (eqb n 0) _ _ (omega N.arith) (p .0), either (λ (f : Effect). S.applied f (add pc 2) x) (λ (j : Instr). exec j 2 pc x) (eqb n 0) refl (p .1))

@@ -1,5 +1,4 @@
 pub mod Alu
 pub mod Decode
-pub mod Compressed
 pub mod Execute
 pub mod Parts

@@ -4,7 +4,7 @@ use mathlib.Core.Bool.{Bool, cond}
 use mathlib.Core.Path.{_≡_}
 use mathlib.Core.List.{List, [], _∷_}
 use Prim.Native.Nat.{ℕ, _+_, _*_, _<_}
-use lib.Dec.{ltb, eqb}
+use lib.Dec.{ltb}
 use Rattle.word.specs.Word.{add}
 use Rattle.isa.specs.Formats.{inst, opcode, funct3, i-imm}
 use Rattle.rv64.specs.declared.alu.Alu.{Alu}

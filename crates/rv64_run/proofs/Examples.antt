@@ -8,7 +8,7 @@ use Rattle.isa.specs.Classes.{class-of}
 use Rattle.le.specs.Le.{load}
 use Rattle.rv64.specs.Alu as N
 use Rattle.rv64.specs.Decode as D
-use Rattle.rv64.specs.Compressed as C
+use Rattle.rvc.specs.Compressed as C
 use Rattle.rv64.specs.Execute as X
 use Rattle.rv64_run.specs.declared.run.Answer.{Answer}
 use Rattle.rv64_run.specs.declared.run.Refusal.{Refusal}

@@ -12,7 +12,7 @@ use Rattle.rv64.specs.declared.decode.Instr.{Instr}
 use Rattle.rv64_run.specs.declared.run.Encoding.{Encoding}
 use Rattle.rv64_run.specs.declared.run.Fetched.{Fetched}
 use Rattle.rv64.specs.Decode.{decode32}
-use Rattle.rv64.specs.Compressed.{decode16}
+use Rattle.rvc.specs.Compressed.{decode16}
 use Rattle.rv64_run.specs.Run.{halfword, fetch}
 use Rattle.rv64_run.specs.Parts.{encoding}
 

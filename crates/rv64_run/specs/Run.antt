@@ -15,7 +15,7 @@ use Rattle.rv64_run.specs.declared.run.Ran.{Ran}
 use Rattle.rv64_run.specs.declared.run.Refusal.{Refusal}
 use Rattle.rv64_run.specs.declared.run.Answer.{Answer}
 use Rattle.rv64.specs.Decode.{decode32}
-use Rattle.rv64.specs.Compressed.{decode16}
+use Rattle.rvc.specs.Compressed.{decode16}
 use Rattle.rv64.specs.Execute as X
 
 -- ---- fetching, from the bytes at the PC on ('Base Instruction-Length Encoding'; document 01, rule 1)

@@ -4,12 +4,12 @@ ghost use Prim.Native.Nat.{_≤_};
 ghost use lib.ListN.{length, drop};
 ghost use Rattle.rv64_run.specs.Run as Rv64;
 ghost use Rattle.rv64_run.specs.Parts as S;
-use rv64::compressed::step16;
+use rules::MAX_INSTRS;
+use rules::refusals;
 use rv64::decode::Instr;
 use rv64::decode::step32;
 use rv64::execute::Flow;
-use rules::MAX_INSTRS;
-use rules::refusals;
+use rvc::step16;
 
 pub struct Hart {
     pub x: [u64; 32],

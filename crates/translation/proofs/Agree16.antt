@@ -17,7 +17,7 @@ use Rattle.rv64.specs.declared.alu.Cond.{Cond}
 use Rattle.rv64.specs.declared.decode.Instr.{Instr}
 use Rattle.rv64.specs.Alu.{value}
 use Rattle.rv64.specs.Execute.{read, write, exec}
-use Rattle.rv64.specs.Compressed as C
+use Rattle.rvc.specs.Compressed as C
 use Rattle.emit_native.specs.declared.EmitFlow.{EmitFlow}
 use Rattle.emit_native.specs.Hart.{not-1}
 use Rattle.a64_emitter.specs.Writers.{and-x, orr-x}

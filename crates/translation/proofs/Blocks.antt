@@ -22,7 +22,7 @@ use Rattle.rv64_run.specs.declared.run.Stop as RS
 use Rattle.rv64_run.specs.declared.run.Ran.{Ran}
 use Rattle.rv64.specs.Execute.{write, exec}
 use Rattle.rv64.specs.Decode as D
-use Rattle.rv64.specs.Compressed as C
+use Rattle.rvc.specs.Compressed as C
 use Rattle.rv64_run.specs.Run as Rv64
 use Rattle.emit_native.specs.declared.EmitFlow.{EmitFlow}
 use Rattle.emit_native.specs.declared.Host.{Host}

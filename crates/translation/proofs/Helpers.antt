@@ -12,7 +12,7 @@ use Rattle.isa.specs.declared.decode.Decoded32.{Decoded32}
 use Rattle.rv64.specs.declared.decode.Instr.{Instr}
 use Rattle.rv64.specs.Decode.{Table, lookup}
 use Rattle.rv64.specs.Decode as D
-use Rattle.rv64.specs.Compressed as C
+use Rattle.rvc.specs.Compressed as C
 use Rattle.emit_native.specs.declared.Host.{Host}
 use Rattle.isa.specs.Decode as Rust
 use Rattle.term_helper.specs.TermHelper as TH
