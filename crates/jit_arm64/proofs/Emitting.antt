@@ -109,12 +109,12 @@ module _ (slot-offset : ℕ) where
       let cs : List Call = emit (mov-x 0 1) ∷ emit (mov-x 1 2) ∷ emit (mov-x 2 3) ∷ emit (mov-x 3 4) ∷ emit (mov-x 4 5) ∷ mov-imm64 5 instr ∷ mov-imm64 6 pc ∷ [] in
       omega (arith, size-append slot-offset cs (call-helper helper k), size-le slot-offset cs, call-size helper k b)
 
-  load-size : (helper m pc instr : ℕ) (d : Decoded32) (k : ℕ) → k < 65536 → m < 65536 → d .rd < 65536 → size slot-offset (load-calls helper m pc instr d k) ≤ instr-words
-  load-size helper m pc instr d k b h l =
-      let cs : List Call = load 9 (d .rs1) ∷ mov-imm64 10 (imm-i instr) ∷ emit (add-x 11 9 10) ∷ emit (mov-x 0 1) ∷ emit (mov-x 1 2) ∷ emit (mov-x 2 3) ∷ [] in
+  -- the memory helper's call: cs, the operation, rd, the value by c5, the address and the PC
+  memory-size : (cs c5 : List Call) (helper m pc rd k : ℕ) → size slot-offset cs ≤ 10 → size slot-offset c5 ≤ 1 → k < 65536 → m < 65536 → rd < 65536
+      → size slot-offset (cs ++ (mov-imm64 3 m ∷ mov-imm64 4 rd ∷ (c5 ++ (emit (mov-x 6 11) ∷ mov-imm64 7 pc ∷ call-helper helper k)))) ≤ instr-words
+  memory-size cs c5 helper m pc rd k s v b h l =
       let c3 : List Call = mov-imm64 3 m ∷ [] in
-      let c4 : List Call = mov-imm64 4 (d .rd) ∷ [] in
-      let c5 : List Call = mov-imm64 5 0 ∷ [] in
+      let c4 : List Call = mov-imm64 4 rd ∷ [] in
       let es : List Call = emit (mov-x 6 11) ∷ mov-imm64 7 pc ∷ [] in
       let z = call-helper helper k in
       omega (
@@ -124,36 +124,21 @@ module _ (slot-offset : ℕ) where
         size-append slot-offset c4 (c5 ++ (es ++ z)),
         size-append slot-offset c5 (es ++ z),
         size-append slot-offset es z,
-        size-le slot-offset cs,
         small 3 m h,
-        small 4 (d .rd) l,
-        small 5 0 (omega arith),
+        small 4 rd l,
         size-le slot-offset es,
         call-size helper k b,
       )
 
+  load-size : (helper m pc instr : ℕ) (d : Decoded32) (k : ℕ) → k < 65536 → m < 65536 → d .rd < 65536 → size slot-offset (load-calls helper m pc instr d k) ≤ instr-words
+  load-size helper m pc instr d k b h l =
+      let cs : List Call = load 9 (d .rs1) ∷ mov-imm64 10 (imm-i instr) ∷ emit (add-x 11 9 10) ∷ emit (mov-x 0 1) ∷ emit (mov-x 1 2) ∷ emit (mov-x 2 3) ∷ [] in
+      memory-size cs (mov-imm64 5 0 ∷ []) helper m pc (d .rd) k (omega (arith, size-le slot-offset cs)) (omega (arith, small 5 0 (omega arith))) b h l
+
   store-size : (helper m pc instr : ℕ) (d : Decoded32) (k : ℕ) → k < 65536 → m < 65536 → d .rd < 65536 → size slot-offset (store-calls helper m pc instr d k) ≤ instr-words
   store-size helper m pc instr d k b h l =
       let cs : List Call = load 9 (d .rs1) ∷ mov-imm64 10 (imm-s instr) ∷ emit (add-x 11 9 10) ∷ load 12 (d .rs2) ∷ emit (mov-x 0 1) ∷ emit (mov-x 1 2) ∷ emit (mov-x 2 3) ∷ [] in
-      let c3 : List Call = mov-imm64 3 m ∷ [] in
-      let c4 : List Call = mov-imm64 4 (d .rd) ∷ [] in
-      let c5 : List Call = emit (mov-x 5 12) ∷ [] in
-      let es : List Call = emit (mov-x 6 11) ∷ mov-imm64 7 pc ∷ [] in
-      let z = call-helper helper k in
-      omega (
-        arith,
-        size-append slot-offset cs (c3 ++ (c4 ++ (c5 ++ (es ++ z)))),
-        size-append slot-offset c3 (c4 ++ (c5 ++ (es ++ z))),
-        size-append slot-offset c4 (c5 ++ (es ++ z)),
-        size-append slot-offset c5 (es ++ z),
-        size-append slot-offset es z,
-        size-le slot-offset cs,
-        small 3 m h,
-        small 4 (d .rd) l,
-        size-le slot-offset c5,
-        size-le slot-offset es,
-        call-size helper k b,
-      )
+      memory-size cs (emit (mov-x 5 12) ∷ []) helper m pc (d .rd) k (omega (arith, size-le slot-offset cs)) (size-le slot-offset (emit (mov-x 5 12) ∷ [])) b h l
 
   -- ---- an instruction is a helper's only where it is not inline and leaves nothing
 

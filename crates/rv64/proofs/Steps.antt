@@ -5,7 +5,8 @@ use mathlib.Core.Bool.{Bool, true, false, cond}
 use Prim.Native.Nat.{ℕ, _+_, _*_, _%_, _<_}
 use native.Mathlib.Omega as N
 use lib.Dec.{ltb, eqb}
-use borrow.Author.Tests.{ne-eqb}
+use lib.ListN.{set}
+use borrow.Author.Tests.{eq-eqb, ne-eqb}
 use Rattle.isa.specs.declared.classes.Class.{Class}
 use Rattle.isa.specs.Classes.{class-of}
 use Rattle.word.specs.Word.{add}
@@ -32,6 +33,14 @@ read-zero x = refl
 pub write-zero : (x : List ℕ) (v : ℕ) → write x 0 v ≡ x
 unfolding write
 write-zero x v = refl
+
+pub write-0 : (x : List ℕ) (n v : ℕ) → n ≡ 0 → write x n v ≡ x
+unfolding write
+write-0 x n v e = rw (eq-eqb n 0 e)
+
+pub write-other : (x : List ℕ) (n v : ℕ) → (n ≡ 0 → ⊥) → write x n v ≡ set x n v
+unfolding write
+write-other x n v h = rw (ne-eqb n 0 h)
 
 -- the opcodes, in the order of the stepper's `match`
 abbrev computing : D.Table ℕ
