@@ -1,3 +1,2 @@
-pub mod Flags
 pub mod Reach
 pub mod Slots

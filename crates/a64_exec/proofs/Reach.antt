@@ -8,10 +8,11 @@ use mathlib.Core.List.{List}
 use lib.ListN.{length, set, length-set}
 use borrow.Author.Tests.{eq-eqb, ne-eqb}
 use Rattle.word.specs.Word.{wrap}
-use Rattle.a64_exec.specs.Exec.{State, reg, with-reg, address, reaches, insert, exec, next, after, machine}
+use Rattle.a64_exec.specs.Exec.{State, reg, with-reg, address, reaches, exec, next, after, machine}
+use Rattle.a64_alu.specs.Alu.{insert}
 use Rattle.a64_exec.specs.Parts.{Within, Reached, Executed}
 use Rattle.a64.specs.declared.Form.{Form}
-use Rattle.a64_exec.specs.declared.state.Flags.{Flags}
+use Rattle.a64_alu.specs.declared.Flags.{Flags}
 use Rattle.a64_exec.specs.declared.exec.Outcome.{Outcome}
 use Rattle.a64_exec.specs.declared.exec.Stepped.{Stepped}
 use Rattle.a64_exec.specs.declared.exec.Access.{Access}

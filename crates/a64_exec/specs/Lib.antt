@@ -1,3 +1,2 @@
 pub mod Exec
-pub mod Nzcv
 pub mod Parts

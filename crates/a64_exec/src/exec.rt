@@ -1,16 +1,20 @@
 // What each form does.
 ghost use mathlib.Core.Bool.{cond};
 ghost use mathlib.Core.Path.{_≡_};
-ghost use Prim.Native.Nat.{_/_, _<_};
+ghost use Prim.Native.Nat.{_<_};
 ghost use lib.ListN.{length, getD, set};
-ghost use Rattle.a64_exec.specs.Exec.{op-value, compared, holds-even, holds, insert, machine};
+ghost use Rattle.a64_exec.specs.Exec.{machine};
 ghost use Rattle.a64_exec.specs.Parts.{Within, Reached, Executed};
 ghost use Rattle.a64.specs.Parts.{InRange};
-ghost use Rattle.a64_exec.specs.declared.state.Flags as DeclaredFlags;
+ghost use Rattle.a64_alu.specs.declared.Flags as DeclaredFlags;
 ghost use Rattle.a64_exec.specs.declared.exec.Outcome as DeclaredOutcome;
-use crate::state::Flags;
 use a64::Form;
-use a64::Op;
+use a64_alu::Flags;
+use a64_alu::compare;
+use a64_alu::get;
+use a64_alu::holds;
+use a64_alu::insert;
+use a64_alu::op_value;
 
 // How a form left the machine.
 pub enum Outcome {
@@ -34,15 +38,6 @@ pub struct Stepped {
     pub flags: Flags,
 }
 
-// Register n as an operand: 31 is zero.
-fn get(x: &[u64; 31], n: u32) -> u64
-    requires { ⌜ length (now x) ≡ 31 ⌝ }
-    ensures { λ r. ⌜ r ≡ getD (now (x .entry)) n 0 ⌝ }
-{
-    let i = n as usize;
-    if i < 31 { x[i] } else { 0 }
-}
-
 // Register n as a result: what goes to 31 is lost.
 fn put(x: &mut [u64; 31], n: u32, v: u64)
     requires { ⌜ length (now x) ≡ 31 ⌝ }
@@ -51,92 +46,6 @@ fn put(x: &mut [u64; 31], n: u32, v: u64)
     let i = n as usize;
     if i < 31 {
         x[i] = v;
-    }
-}
-
-// Division by 0 gives 0.
-fn udiv(x: u64, y: u64) -> u64
-    ensures { λ r. ⌜ r ≡ x / y ⌝ }
-{
-    if y == 0 { 0 } else { x / y }
-}
-
-// The result of a three-register form on registers n and m. Each arm reads them, so that the decoder's test of the
-// operation is the only one.
-fn op_value(op: Op, x: &[u64; 31], n: u32, m: u32) -> u64
-    requires { ⌜ length (now x) ≡ 31 ⌝ }
-    ensures { λ r. ⌜ r ≡ op-value op (getD (now (x .entry)) n 0) (getD (now (x .entry)) m 0) ⌝ }
-{
-    match op {
-        Op::Add => std::num::wrapping_add_u64(get(x, n), get(x, m)),
-        Op::Sub => word::sub(get(x, n), get(x, m)),
-        Op::And => get(x, n) & get(x, m),
-        Op::Orr => get(x, n) | get(x, m),
-        Op::Eor => get(x, n) ^ get(x, m),
-        Op::Lslv => get(x, n) << (get(x, m) % 64),
-        Op::Lsrv => get(x, n) >> (get(x, m) % 64),
-        Op::Asrv => word::asr(get(x, n), (get(x, m) % 64) as u32),
-        Op::Mul => word::mul(get(x, n), get(x, m)),
-        Op::Smulh => word::mulh(get(x, n), get(x, m)),
-        Op::Umulh => word::mulhu(get(x, n), get(x, m)),
-        Op::Udiv => udiv(get(x, n), get(x, m)),
-        Op::Sdiv => word::sdiv(get(x, n), get(x, m)),
-    }
-}
-
-// The flags of x - y.
-fn compare(x: u64, y: u64) -> Flags
-    ensures { λ r. ⌜ r ≡ compared x y ⌝ }
-{
-    let n = 0x8000_0000_0000_0000 <= word::sub(x, y);
-    Flags {
-        n: n,
-        z: x == y,
-        c: y <= x,
-        v: word::slt(x, y) != n,
-    }
-}
-
-fn holds_even(k: u32, f: Flags) -> bool
-    ensures { λ r. ⌜ r ≡ holds-even k f ⌝ }
-{
-    let less = f.n != f.v;
-    let z = f.z;
-    let c = f.c;
-    match k {
-        0 => z,
-        1 => c,
-        2 => f.n,
-        3 => f.v,
-        4 => c & !z,
-        5 => !less,
-        6 => !less & !z,
-        _ => true,
-    }
-}
-
-// Whether condition k holds.
-fn holds(k: u32, f: Flags) -> bool
-    ensures { λ r. ⌜ r ≡ holds k f ⌝ }
-{
-    let even = holds_even(k / 2, f);
-    if (k % 2 == 1) & (k != 15) {
-        !even
-    } else {
-        even
-    }
-}
-
-// x with its halfword hw replaced.
-fn insert(x: u64, hw: u32, v: u64) -> u64
-    requires { ⌜ (hw < 4) × (v < 65536) ⌝ }
-    ensures { λ r. ⌜ r ≡ insert x hw v ⌝ }
-{
-    match hw {
-        0 => v + x / 65536 * 65536,
-        1 => x % 65536 + v * 65536 + x / 0x1_0000_0000 * 0x1_0000_0000,
-        2 => x % 0x1_0000_0000 + v * 0x1_0000_0000 + x / 0x1_0000_0000_0000 * 0x1_0000_0000_0000,
-        _ => x % 0x1_0000_0000_0000 + v * 0x1_0000_0000_0000,
     }
 }
 

@@ -1,5 +1,4 @@
 // Replays what an Arm machine was recorded to do, and document 01's own rules (machines/README.md has the format).
-use a64_exec::state;
 use a64_exec::state::A64State;
 use a64_run::run;
 use a64_run::run::Answer;
@@ -19,7 +18,7 @@ fn answers(fd: i32, answer: Answer, x: &mut [u64], memory: &[u8], after: &mut [u
         && answer.end == end
         && answer.steps == steps
         && state.sp == sp
-        && state::nzcv_of(flags) == nzcv
+        && a64_alu::nzcv_of(flags) == nzcv
         && check::same(memory, after)
 }
 
@@ -31,7 +30,7 @@ fn agrees(fd: i32, block: &[u8], memory: &mut [u8], after: &mut [u8]) -> bool {
     replay::unnamed(&mut x);
     replay::read_registers(fd, &mut x);
     let sp = replay::read_number(fd);
-    let flags = state::flags_of(replay::read_byte(fd) as u64);
+    let flags = a64_alu::flags_of(replay::read_byte(fd) as u64);
     let base = replay::read_number(fd);
     let size = replay::read_size(fd, 64);
     if memory.len() < size {

@@ -7,7 +7,7 @@ use lib.ListN.{length, drop}
 use Rattle.le.specs.Le.{load}
 use Rattle.le.proofs.Lists.{numbers-at, numbers-over}
 use Rattle.a64.specs.Forms.{decode}
-use Rattle.a64_exec.specs.declared.state.Flags.{Flags}
+use Rattle.a64_alu.specs.declared.Flags.{Flags}
 use Rattle.a64_exec.specs.declared.exec.Outcome.{Outcome}
 use Rattle.a64_exec.specs.declared.exec.Stepped.{Stepped}
 use Rattle.a64_run.specs.declared.run.End.{End}

@@ -8,11 +8,11 @@ ghost use Rattle.a64.specs.Forms.{decode};
 ghost use Rattle.a64_exec.specs.Exec.{machine};
 ghost use Rattle.a64_exec.specs.Parts.{Executed};
 ghost use Rattle.a64_run.specs.Run as A64;
+use a64_alu::Flags;
 use a64_exec::exec;
 use a64_exec::exec::Outcome;
 use a64_exec::exec::Stepped;
 use a64_exec::state::A64State;
-use a64_exec::state::Flags;
 use rules::refusals;
 
 // How a run ended.

@@ -1,8 +1,8 @@
 // Replays Translate: document 01's marked blocks (marked.bin), and cases that emuko's Rust answered (blocks.bin).
 // rust/oracle/README.md has the format of both files.
 use emit_native::Host;
-use jit_arm64::Answer;
 use libc::STDOUT_FILENO;
+use translator::Answer;
 
 // Translates as the case says; `asked` is what the file has between the guest bytes and the answer.
 fn ask(guest: &[u8], asked: &[u8; 49], output: &mut [u8]) -> Answer {

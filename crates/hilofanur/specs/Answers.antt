@@ -5,14 +5,14 @@ use Prim.Native.Nat.{ℕ}
 use lib.Dec.{eqb}
 use Rattle.le.specs.Le.{load, numbers, all-bytes}
 use Rattle.emit_native.specs.declared.Host.{Host}
-use Rattle.jit_arm64.specs.Translate as T
+use Rattle.translator.specs.Translate as T
 use Rattle.code_cache.specs.Place as P
 use Rattle.rv64_run.specs.declared.run.Hart.{Hart}
 use Rattle.rv64_run.specs.declared.run.Answer as RvAnswer
 use Rattle.rv64_run.specs.Run.{number, answer}
 use Rattle.a64_exec.specs.declared.state.A64State.{A64State}
 use Rattle.a64_run.specs.Run as A64
-use Rattle.a64_exec.specs.Nzcv.{flags-of, nzcv-of}
+use Rattle.a64_alu.specs.Nzcv.{flags-of, nzcv-of}
 use Rattle.hilofanur.specs.declared.TranslateAnswer.{TranslateAnswer}
 use Rattle.hilofanur.specs.declared.PlaceAnswer.{PlaceAnswer}
 use Rattle.hilofanur.specs.declared.A64RunAnswer.{A64RunAnswer}

@@ -2,7 +2,6 @@
 ghost use mathlib.Core.Path.{_≡_};
 ghost use lib.ListN.{length};
 ghost use Rattle.hilofanur.specs.Answers as Answers;
-use a64_exec::state;
 use a64_exec::state::A64State;
 
 pub fn from_bytes(b: &[u8]) -> A64State
@@ -12,7 +11,7 @@ pub fn from_bytes(b: &[u8]) -> A64State
     let mut x = [0u64; 31];
     le::read64(b, &mut x);
     let sp = le::load64(b, 248);
-    let flags = state::flags_of(le::load64(b, 256));
+    let flags = a64_alu::flags_of(le::load64(b, 256));
     A64State {
         x: x,
         sp: sp,
@@ -28,5 +27,5 @@ pub fn to_bytes(s: A64State, b: &mut [u8])
     let flags = s.flags;
     le::write64(&x, b);
     le::store64(b, 248, s.sp);
-    le::store64(b, 256, state::nzcv_of(flags));
+    le::store64(b, 256, a64_alu::nzcv_of(flags));
 }

@@ -3,6 +3,4 @@ pub mod Ending
 pub mod Fetching
 pub mod Flows
 pub mod Refusals
-pub mod Rows
-pub mod Translating
 pub mod Walking

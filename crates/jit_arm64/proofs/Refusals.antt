@@ -13,8 +13,7 @@ use Rattle.emit_native.specs.declared.EmitFlow.{EmitFlow}
 use Rattle.emit_native.specs.declared.EmitFlow.the-variants.{Continue, Terminate, None}
 use Rattle.emit_native.specs.Calls.{Call, Emission}
 use Rattle.emit_native.proofs.Size.{by}
-use Rattle.jit_arm64.specs.Block.{Walk, fetch, size-of, helped, step, instr-walk, walk, whole-walk, block-of, compile-native-block}
-use Rattle.jit_arm64.specs.Translate.{is-missing}
+use Rattle.jit_arm64.specs.Block.{Walk, fetch, is-missing, size-of, helped, step, instr-walk, walk, whole-walk, block-of, compile-native-block}
 use Rattle.jit_arm64.specs.Parts.{neither, is-uncovered}
 
 -- the walk never counts less than it began with

@@ -1,6 +1,6 @@
 -- `compile_native_block`: the walk over the guest code, and the end of the block.
 use Prim.Native.Nat.{ℕ, zero, suc, _+_, _*_, _%_, _^_, min}
-use mathlib.Core.Bool.{Bool, cond}
+use mathlib.Core.Bool.{Bool, true, false, cond}
 use mathlib.Core.List.{List, [], _∷_, _++_}
 use mathlib.Core.Option.{Option, none, some}
 use lib.ListN.{length}
@@ -41,6 +41,10 @@ fetch pc guest i =
     (cond (is-32 (half guest i)) (fetch-upper guest i) (some (half guest i)))
     none)
     none
+
+unfoldable pub is-missing : Option ℕ → Bool
+is-missing none = true
+is-missing (some instr) = false
 
 -- ---- one instruction
 

@@ -13,8 +13,7 @@ use Rattle.emit_native.specs.declared.Emitted.{Emitted}
 use Rattle.emit_native.specs.Calls.{Call, words}
 use Rattle.jit_arm64.specs.declared.fetch.Fetched.{Fetched}
 use Rattle.jit_arm64.specs.declared.block.NativeBlock.{NativeBlock}
-use Rattle.jit_arm64.specs.Block.{fetch, size-of, emit-native, emit-term-helper, Walk, block-calls}
-use Rattle.jit_arm64.specs.Translate.{is-missing}
+use Rattle.jit_arm64.specs.Block.{fetch, is-missing, size-of, emit-native, emit-term-helper, Walk, block-calls}
 
 -- what was fetched, and its length in bytes; 0 for both where a halfword is missing
 unfoldable pub fetched : Option ℕ → Fetched

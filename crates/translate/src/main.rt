@@ -1,8 +1,8 @@
 // Document 01's program: Translate on what standard input holds.
 use emit_native::Host;
-use jit_arm64::Answer;
 use libc::STDIN_FILENO;
 use libc::STDOUT_FILENO;
+use translator::Answer;
 
 // Each word of the block on a line, as eight digits.
 fn print_words(block: &[u8]) {

@@ -11,7 +11,7 @@ use borrow.Author.Tests.{eqb-true, eqb-false, ne-eqb}
 use Rattle.word.specs.Word.{add, shl}
 use Rattle.isa.specs.Formats.{inst, rd, low-reg, high-reg, ciw-imm, ci-imm, shamt-c, ci16-imm, cj-imm, cb-imm}
 use Rattle.a64.specs.Forms.{decode}
-use Rattle.a64_exec.specs.Exec.{op-value}
+use Rattle.a64_alu.specs.Alu.{op-value}
 use Rattle.rv64.specs.declared.alu.Alu.{Alu}
 use Rattle.rv64.specs.declared.alu.Cond.{Cond}
 use Rattle.rv64.specs.declared.decode.Instr.{Instr}

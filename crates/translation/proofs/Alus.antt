@@ -13,8 +13,8 @@ use borrow.Author.Tests.{leb-true, leb-false, eqb-true, lt-ltb, le-ltb}
 use Rattle.word.specs.Word.{sext, sdiv, srem, signed, magnitude}
 use Rattle.word.proofs.Laws.{product-below}
 use Rattle.a64.specs.Forms.{decode}
-use Rattle.a64_exec.specs.Exec.{op-value, holds, holds-even, difference}
-use Rattle.a64_exec.proofs.Flags.{difference-sub, z-law, c-law, n-law, lt-law}
+use Rattle.a64_alu.specs.Alu.{op-value, holds, holds-even, difference}
+use Rattle.a64_alu.proofs.Comparing.{difference-sub, z-law, c-law, n-law, lt-law}
 use Rattle.rv64.specs.declared.alu.Alu.{Alu}
 use Rattle.rv64.specs.Alu.{value, quotient, remainder, quotient-u, remainder-u}
 use Rattle.emit_native.specs.Calls.{Call}

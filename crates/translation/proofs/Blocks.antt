@@ -35,7 +35,7 @@ use Rattle.instr16.specs.Instr16 as I16
 use Rattle.instr32.specs.Instr32 as I32
 use Rattle.term_helper.specs.TermHelper as TH
 use Rattle.jit_arm64.specs.Block.{Walk, walked, in-front, emit-native, emit-term-helper, helped, step, instr-walk, walk, fetch, fetch-upper}
-use Rattle.jit_arm64.specs.Translate.{by-helper}
+use Rattle.translator.specs.Translate.{by-helper}
 use Rattle.translation.proofs.Calls.{Model, call-step, calls-run, scratch, fits, all-fit, all-keep, AllIn, Kept, calls-kept, is-true}
 use Rattle.translation.proofs.Instrs.{run-append, fit-append, in-append, Fine, Matches, nothing}
 use Rattle.translation.proofs.Agree32.{agrees32}

@@ -19,9 +19,10 @@ use Rattle.a64.specs.declared.Op.{Op}
 use Rattle.a64.specs.declared.Op.the-variants.{Add, Sub, And, Orr, Eor, Lslv, Lsrv, Asrv, Mul, Smulh, Umulh, Udiv, Sdiv}
 use Rattle.a64.specs.declared.Form.{Form}
 use Rattle.a64.specs.declared.Form.the-variants.{DataProcessing, Ldr, Str, Movz, Movk, Cmp, Csel, Sxtw, AddSp, SubSp, Blr, Ret, Unreadable}
-use Rattle.a64_exec.specs.declared.state.Flags.{Flags}
+use Rattle.a64_alu.specs.declared.Flags.{Flags}
 use Rattle.a64.specs.Forms.{decode}
-use Rattle.a64_exec.specs.Exec.{State, machine, op-value, compared, holds, address, reaches, next, exec}
+use Rattle.a64_exec.specs.Exec.{State, machine, address, reaches, next, exec}
+use Rattle.a64_alu.specs.Alu.{op-value, compared, holds}
 use Rattle.a64_run.proofs.Straight.{Straight, straight-append, one-form}
 use Rattle.a64_exec.proofs.Slots.{Apart, Slots, slot-stored}
 use Rattle.emit_native.specs.Calls.{Call, emit, mov-imm64, load, store, reg-off, rust, call-words, words-in, words}

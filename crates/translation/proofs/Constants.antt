@@ -12,7 +12,8 @@ use borrow.Author.Tests.{eqb-true}
 use Rattle.a64.specs.declared.Form.the-variants.{Movz, Movk}
 use Rattle.a64.specs.Forms.{encode}
 use Rattle.a64_emitter.specs.Writers.{part, movk, mov-imm64}
-use Rattle.a64_exec.specs.Exec.{State, reg, with-reg, insert, exec}
+use Rattle.a64_exec.specs.Exec.{State, reg, with-reg, exec}
+use Rattle.a64_alu.specs.Alu.{insert}
 use Rattle.a64_run.proofs.Straight.{Straight, straight-append, one-form}
 
 module _ (s : State) (d : ℕ) (hd : d < 31) (hl : d < length (s .x)) where

@@ -10,8 +10,8 @@ use lib.ListN.{getD, set}
 use borrow.Author.Tests.{eqb-true}
 use Rattle.word.specs.Word.{add}
 use Rattle.a64.specs.Forms.{decode}
-use Rattle.a64_exec.specs.Exec.{op-value, compared, holds, holds-even}
-use Rattle.a64_exec.proofs.Flags.{z-law, c-law, lt-law}
+use Rattle.a64_alu.specs.Alu.{op-value, compared, holds, holds-even}
+use Rattle.a64_alu.proofs.Comparing.{z-law, c-law, lt-law}
 use Rattle.rv64.specs.declared.alu.Alu.{Alu}
 use Rattle.rv64.specs.declared.alu.Cond.{Cond}
 use Rattle.rv64.specs.declared.decode.Instr.{Instr}

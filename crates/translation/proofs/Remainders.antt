@@ -7,8 +7,8 @@ use native.Mathlib.Omega.{arith}
 use borrow.Author.Tests.{leb-true, leb-false}
 use Rattle.word.specs.Word.{mul, sign, magnitude, signed, sdiv, srem, mulhu, mulhsu}
 use Rattle.word.proofs.Laws.{mulhsu-positive, mulhsu-negative}
-use Rattle.a64_exec.specs.Exec.{difference}
-use Rattle.a64_exec.proofs.Flags.{difference-sub}
+use Rattle.a64_alu.specs.Alu.{difference}
+use Rattle.a64_alu.proofs.Comparing.{difference-sub}
 
 -- a factor may be taken modulo m
 mod-mul-mod : (a b m : ℕ) → a % m * b % m ≡ a * b % m

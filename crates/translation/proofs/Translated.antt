@@ -10,8 +10,8 @@ use borrow.Author.Tests.{eqb-true, eqb-false, ltb-false}
 use Rattle.rules.specs.Limits.{max-instrs, max-slot-offset}
 use Rattle.le.specs.Le.{Bytes}
 use Rattle.emit_native.specs.declared.Host.{Host}
-use Rattle.jit_arm64.specs.Block.{fetch, Walk, whole-walk, block-of}
-use Rattle.jit_arm64.specs.Translate.{Result, by-helper, accepted, bad-slot-offset, is-missing, no-block, of-block, translate}
+use Rattle.jit_arm64.specs.Block.{fetch, is-missing, Walk, whole-walk, block-of}
+use Rattle.translator.specs.Translate.{Result, by-helper, accepted, bad-slot-offset, no-block, of-block, translate}
 use Rattle.jit_arm64.proofs.Refusals.{first, refuses, no-block-is}
 use Rattle.translation.specs.Demand3.{Demand3}
 use Rattle.translation.proofs.Whole.{demand3}

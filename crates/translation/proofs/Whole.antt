@@ -29,7 +29,7 @@ use Rattle.emit_native.specs.Calls.{Call, emit, mov-imm64, words-in, words, reg
 use mathlib.Core.Option.{Option, none, some}
 use Rattle.emit_native.specs.declared.EmitFlow.{EmitFlow}
 use Rattle.jit_arm64.specs.Block.{Walk, size-of, helped, step, instr-walk, walk, end-calls, block-calls, whole-walk, block-of}
-use Rattle.jit_arm64.specs.Translate.{by-helper}
+use Rattle.translator.specs.Translate.{by-helper}
 use Rattle.jit_arm64.proofs.Emitting.{words-append}
 use Rattle.translation.specs.Demand3.{slot, place, Entry, Ends, Demand3}
 use Rattle.translation.proofs.Registers.{tab, tab-getD, getD-tab}

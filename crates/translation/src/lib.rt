@@ -1,14 +1,14 @@
 // Operation Translate with demand 3: what a block's words do to the slots is what the ISA does to the guest's registers.
 ghost use mathlib.Core.Path.{_≡_};
 ghost use lib.ListN.{take};
-ghost use Rattle.jit_arm64.specs.Translate.{result, translate};
+ghost use Rattle.translator.specs.Translate.{result, translate};
 ghost use Rattle.translation.specs.Demand3.{Demand3};
 use emit_native::Host;
-use jit_arm64::Answer;
+use translator::Answer;
 
 pub fn translate(guest: &[u8], pc: u64, limit: u32, host: Host, output: &mut [u8]) -> Answer
     ensures { λ r. ⌜ result r (now (output .exit)) ≡ translate host (now (guest .entry)) pc limit (now (output .entry)) ⌝ }
     ensures { λ r. ⌜ (r .refusal ≡ 0 → r .helper ≡ 0 → Demand3 (now (guest .entry)) pc limit (host .«ignore_ebreak») (host .«slot_offset») (take (r .length) (now (output .exit))) (r .count)) ⌝ }
 {
-    jit_arm64::translate(guest, pc, limit, host, output)
+    translator::translate(guest, pc, limit, host, output)
 }

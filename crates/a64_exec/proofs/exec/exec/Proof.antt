@@ -2,7 +2,7 @@ use borrow.Author.Needs.{needs}
 use mathlib.Core.Path.{ap}
 use Prim.Native.Nat.{ℕ}
 use Rattle.a64_exec.specs.Exec.{State, machine, with-sp, next, exec}
-use Rattle.a64_exec.proofs.Flags.{difference-sub}
+use Rattle.a64_alu.proofs.Comparing.{difference-sub}
 use Rattle.a64_exec.proofs.Reach.{insert-zero, by-result, by-leave}
 use Rattle.a64_exec.proofs.exec.exec.Statement.{statement}
 use Rattle.a64_exec.proofs.exec.exec.Tie as tie

@@ -1,8 +1,7 @@
 use native.Mathlib.Omega.{arith}
 use borrow.Author.Needs.{needs}
 use mathlib.Core.Path.{refl, sym, _∙_}
-use Rattle.jit_arm64.specs.Block.{emit-term-helper}
-use Rattle.jit_arm64.specs.Translate.{is-missing}
+use Rattle.jit_arm64.specs.Block.{is-missing, emit-term-helper}
 use Rattle.jit_arm64.specs.Parts.{neither, is-uncovered}
 use Rattle.jit_arm64.proofs.Fetching.{is-none, is-some, first-at}
 use Rattle.jit_arm64.proofs.Flows.{not-terminate, inline-covered, not-covered}

@@ -1,0 +1,72 @@
+-- Document 01's marked blocks, as one list over which one fact is shown. Assumes nothing.
+use Prim.Native.Nat.{ℕ, zero, suc, _*_, _-_}
+use mathlib.Core.Path.{_≡_, refl}
+use mathlib.Core.Bool.{false}
+use mathlib.Core.List.{List, [], _∷_, _++_, map, flatten}
+use lib.ListN.{length, replicate}
+use Rattle.a64_emitter.specs.Emitter.{bytes}
+use Rattle.a64_emitter.specs.Writers as Writers
+use Rattle.le.specs.Le as Le
+use Rattle.word.specs.Word as W
+use Rattle.emit_native.specs.declared.Host.{Host}
+use Rattle.translator.specs.Translate as T
+use Rattle.jit_arm64.specs.Block as B
+use Rattle.emit_native.specs.Calls as Calls
+use Rattle.isa.specs.Decode as Rust
+use Rattle.instr16.specs.Instr16 as I16
+use Rattle.term_helper.specs.TermHelper as TH
+
+host : Host
+host = record { «slot_offset» = 0; «memory_helper» = 0x10000; helper32 = 0x20000; helper16 = 0x30000; «ignore_ebreak» = false }
+
+-- the guest bytes, the limit, the PC; the words, the refusal and the count found
+record Row : Type 0 where
+  guest : List ℕ
+  limit : ℕ
+  pc : ℕ
+  words : List ℕ
+  refusal : ℕ
+  count : ℕ
+
+row : List ℕ → ℕ → ℕ → List ℕ → ℕ → Row
+row g l pc ws n = record { guest = g; limit = l; pc = pc; words = ws; refusal = 0; count = n }
+
+refusing : List ℕ → ℕ → ℕ → Row
+refusing g l n = record { guest = g; limit = l; pc = 0x1000; words = []; refusal = n; count = 0 }
+
+nops : ℕ → List ℕ
+nops zero = []
+nops (suc n) = 1 ∷ 0 ∷ nops n
+
+rows : List Row
+rows =
+    row (0x01 ∷ 0x00 ∷ []) 1 0x1000 (0xD2820040 ∷ 0xD2800021 ∷ 0xD65F03C0 ∷ []) 1
+    ∷ row (0x01 ∷ 0x00 ∷ []) 1 0xFFFFFFFFFFFFFFFE (0xD2800000 ∷ 0xD2800021 ∷ 0xD65F03C0 ∷ []) 1
+    ∷ row (0x7D ∷ 0x55 ∷ []) 1 0x1000
+    (0xD29FFFEB ∷ 0xF2BFFFEB ∷ 0xF2DFFFEB ∷ 0xF2FFFFEB ∷ 0xF900280B ∷ 0xD2820040 ∷ 0xD2800021 ∷ 0xD65F03C0 ∷ []) 1
+    ∷ row (0x82 ∷ 0x80 ∷ []) 1 0x1000
+    (0xF9400409 ∷ 0xD29FFFCA ∷ 0xF2BFFFEA ∷ 0xF2DFFFEA ∷ 0xF2FFFFEA ∷ 0x8A0A0120 ∷ 0xD2800021 ∷ 0xD65F03C0 ∷ []) 1
+    ∷ row (0x01 ∷ 0x00 ∷ 0x41 ∷ 0x9C ∷ []) 2 0x1000 (0xF9402009 ∷ 0xF940200A ∷ 0xD2820040 ∷ 0xD2800021 ∷ 0xD65F03C0 ∷ []) 1
+    ∷ refusing (0x41 ∷ 0x9C ∷ []) 1 5
+    ∷ refusing (0x00 ∷ 0x00 ∷ []) 1 5
+    ∷ refusing (0x03 ∷ 0x00 ∷ []) 1 4
+    ∷ refusing [] 0 2
+    ∷ row (nops 65) 65 0x1000 (0xD2821000 ∷ 0xD2800801 ∷ 0xD65F03C0 ∷ []) 64
+    ∷ []
+
+-- with room for 8 words
+room : List ℕ
+room = replicate 32 0xEE
+
+found : Row → T.Result
+found r = T.translate host (r .guest) (r .pc) (r .limit) room
+
+-- what the paper says
+said : Row → T.Result
+said r =
+    T.result (record { refusal = r .refusal; length = 4 * length (r .words); count = r .count; helper = 0 })
+    (bytes (r .words) ++ replicate (32 - 4 * length (r .words)) 0xEE)
+
+all-rows : map found rows ≡ map said rows
+unfolding rows row refusing nops room found said host B.is-missing T.by-helper T.no-block T.of-block T.translate B.fetch-upper B.fetch B.emit-native B.emit-term-helper B.helped B.step B.instr-walk B.walk B.end-calls B.whole-walk B.compile-native-block Calls.words-in Calls.store-rd Rust.sign-extend Rust.imm-ci Rust.shamt Rust.imm-addi4spn Rust.imm-addi16sp Rust.imm-cj Rust.imm-cb I16.addi4spn I16.quadrant-0 I16.c-addi I16.c-addiw I16.c-li I16.c-addi16sp I16.c-lui I16.c-srli I16.c-srai I16.c-andi I16.c-alu I16.c-group I16.c-j I16.c-branch-on I16.c-branch I16.c-addi16sp-lui I16.quadrant-1 I16.c-slli I16.c-jr I16.c-mv I16.c-ebreak I16.c-jalr I16.c-add I16.c-jump-move-add I16.quadrant-2 I16.emit-native-instr16 TH.supports TH.emit-native-term-helper16 Writers.movk Writers.mov-imm64 Le.number Le.load Le.bytes Le.all-bytes W.asr flatten
+all-rows = refl
