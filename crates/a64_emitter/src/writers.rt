@@ -1,8 +1,16 @@
 // The word writers of `A64Emitter`.
 ghost use mathlib.Core.Path.{_≡_};
-ghost use Prim.Native.Nat.{_<_};
+ghost use Prim.Native.Nat.{_+_, _*_, _^_, _<_, _≤_};
 ghost use Rattle.a64_emitter.specs.Writers as Writers;
 use crate::A64Emitter;
+
+// The fixed bits of a form, with three registers.
+fn three_registers(fixed: u32, rd: u8, rn: u8, rm: u8) -> u32
+    requires { ⌜ (fixed ≤ 0xFFE0_0000) × (rd < 32) × (rn < 32) × (rm < 32) ⌝ }
+    ensures { λ r. ⌜ r ≡ fixed + rm * 2 ^ 16 + rn * 2 ^ 5 + rd ⌝ }
+{
+    fixed + (rm as u32) * 65536 + (rn as u32) * 32 + rd as u32
+}
 
 impl A64Emitter {
     // LDR Xt, [Xn, #off]; off is in bytes, a multiple of 8.
@@ -24,91 +32,91 @@ impl A64Emitter {
         requires { ⌜ (rd < 32) × (rn < 32) × (rm < 32) ⌝ }
         ensures { λ r. ⌜ r ≡ Writers.add-x rd rn rm ⌝ }
     {
-        0x8B00_0000 + (rm as u32) * 65536 + (rn as u32) * 32 + rd as u32
+        three_registers(0x8B00_0000, rd, rn, rm)
     }
 
     pub fn sub_x(rd: u8, rn: u8, rm: u8) -> u32
         requires { ⌜ (rd < 32) × (rn < 32) × (rm < 32) ⌝ }
         ensures { λ r. ⌜ r ≡ Writers.sub-x rd rn rm ⌝ }
     {
-        0xCB00_0000 + (rm as u32) * 65536 + (rn as u32) * 32 + rd as u32
+        three_registers(0xCB00_0000, rd, rn, rm)
     }
 
     pub fn and_x(rd: u8, rn: u8, rm: u8) -> u32
         requires { ⌜ (rd < 32) × (rn < 32) × (rm < 32) ⌝ }
         ensures { λ r. ⌜ r ≡ Writers.and-x rd rn rm ⌝ }
     {
-        0x8A00_0000 + (rm as u32) * 65536 + (rn as u32) * 32 + rd as u32
+        three_registers(0x8A00_0000, rd, rn, rm)
     }
 
     pub fn orr_x(rd: u8, rn: u8, rm: u8) -> u32
         requires { ⌜ (rd < 32) × (rn < 32) × (rm < 32) ⌝ }
         ensures { λ r. ⌜ r ≡ Writers.orr-x rd rn rm ⌝ }
     {
-        0xAA00_0000 + (rm as u32) * 65536 + (rn as u32) * 32 + rd as u32
+        three_registers(0xAA00_0000, rd, rn, rm)
     }
 
     pub fn eor_x(rd: u8, rn: u8, rm: u8) -> u32
         requires { ⌜ (rd < 32) × (rn < 32) × (rm < 32) ⌝ }
         ensures { λ r. ⌜ r ≡ Writers.eor-x rd rn rm ⌝ }
     {
-        0xCA00_0000 + (rm as u32) * 65536 + (rn as u32) * 32 + rd as u32
+        three_registers(0xCA00_0000, rd, rn, rm)
     }
 
     pub fn lslv_x(rd: u8, rn: u8, rm: u8) -> u32
         requires { ⌜ (rd < 32) × (rn < 32) × (rm < 32) ⌝ }
         ensures { λ r. ⌜ r ≡ Writers.lslv-x rd rn rm ⌝ }
     {
-        0x9AC0_2000 + (rm as u32) * 65536 + (rn as u32) * 32 + rd as u32
+        three_registers(0x9AC0_2000, rd, rn, rm)
     }
 
     pub fn lsrv_x(rd: u8, rn: u8, rm: u8) -> u32
         requires { ⌜ (rd < 32) × (rn < 32) × (rm < 32) ⌝ }
         ensures { λ r. ⌜ r ≡ Writers.lsrv-x rd rn rm ⌝ }
     {
-        0x9AC0_2400 + (rm as u32) * 65536 + (rn as u32) * 32 + rd as u32
+        three_registers(0x9AC0_2400, rd, rn, rm)
     }
 
     pub fn asrv_x(rd: u8, rn: u8, rm: u8) -> u32
         requires { ⌜ (rd < 32) × (rn < 32) × (rm < 32) ⌝ }
         ensures { λ r. ⌜ r ≡ Writers.asrv-x rd rn rm ⌝ }
     {
-        0x9AC0_2800 + (rm as u32) * 65536 + (rn as u32) * 32 + rd as u32
+        three_registers(0x9AC0_2800, rd, rn, rm)
     }
 
     pub fn mul_x(rd: u8, rn: u8, rm: u8) -> u32
         requires { ⌜ (rd < 32) × (rn < 32) × (rm < 32) ⌝ }
         ensures { λ r. ⌜ r ≡ Writers.mul-x rd rn rm ⌝ }
     {
-        0x9B00_7C00 + (rm as u32) * 65536 + (rn as u32) * 32 + rd as u32
+        three_registers(0x9B00_7C00, rd, rn, rm)
     }
 
     pub fn smulh_x(rd: u8, rn: u8, rm: u8) -> u32
         requires { ⌜ (rd < 32) × (rn < 32) × (rm < 32) ⌝ }
         ensures { λ r. ⌜ r ≡ Writers.smulh-x rd rn rm ⌝ }
     {
-        0x9B40_7C00 + (rm as u32) * 65536 + (rn as u32) * 32 + rd as u32
+        three_registers(0x9B40_7C00, rd, rn, rm)
     }
 
     pub fn umulh_x(rd: u8, rn: u8, rm: u8) -> u32
         requires { ⌜ (rd < 32) × (rn < 32) × (rm < 32) ⌝ }
         ensures { λ r. ⌜ r ≡ Writers.umulh-x rd rn rm ⌝ }
     {
-        0x9BC0_7C00 + (rm as u32) * 65536 + (rn as u32) * 32 + rd as u32
+        three_registers(0x9BC0_7C00, rd, rn, rm)
     }
 
     pub fn udiv_x(rd: u8, rn: u8, rm: u8) -> u32
         requires { ⌜ (rd < 32) × (rn < 32) × (rm < 32) ⌝ }
         ensures { λ r. ⌜ r ≡ Writers.udiv-x rd rn rm ⌝ }
     {
-        0x9AC0_0800 + (rm as u32) * 65536 + (rn as u32) * 32 + rd as u32
+        three_registers(0x9AC0_0800, rd, rn, rm)
     }
 
     pub fn sdiv_x(rd: u8, rn: u8, rm: u8) -> u32
         requires { ⌜ (rd < 32) × (rn < 32) × (rm < 32) ⌝ }
         ensures { λ r. ⌜ r ≡ Writers.sdiv-x rd rn rm ⌝ }
     {
-        0x9AC0_0C00 + (rm as u32) * 65536 + (rn as u32) * 32 + rd as u32
+        three_registers(0x9AC0_0C00, rd, rn, rm)
     }
 
     // Xd is Xn OR zero.

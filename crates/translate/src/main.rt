@@ -53,6 +53,6 @@ fn main() {
         helper16: 0x30000,
         ignore_ebreak: flag,
     };
-    let answer = translation::translate(guest, pc, limit, host, &mut output);
+    let answer = translator::translate(guest, pc, limit, host, &mut output);
     print_answer(answer, &output);
 }
