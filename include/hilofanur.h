@@ -1,7 +1,7 @@
 /* Hilofanur: RV64 guest blocks in, A64 words out. For libhilofanur.a on x86-64.
  *
  * Each function answers by a struct. Its refusal is 0 where the call was accepted; else it is the lowest number that
- * applies, the answer's other numbers are 0 and every lent byte is as it was:
+ * applies, the answer's other numbers are 0, but for the offset beside 13, and every lent byte is as it was:
  *
  *    1  slot offset not a multiple of 8 or above 32,512
  *    2  limit 0
@@ -14,6 +14,9 @@
  *    9  register 0 not zero
  *   10  block length not a multiple of 4
  *   11  memory base plus memory length exceeds 2^64
+ *   12  block length not a multiple of 4 or above 2^32
+ *   13  a word outside the forms
+ *   14  the output is shorter than the listing
  *
  * Bytes are lent by a pointer and their number, which is below 2^63. A pointer is never null, even where the number is
  * 0; it needs no alignment. Bytes that a call may write overlap no others that it is lent. No pointer is kept after the
@@ -50,6 +53,8 @@ extern "C" {
 #define HILOFANUR_REGISTERS 256
 /* X0 to X30, SP and NZCV, 8 bytes each. */
 #define HILOFANUR_STATE 264
+/* The bytes of the longest line of a listing. */
+#define HILOFANUR_LONGEST_LINE 45
 
 struct hilofanur_translate_answer {
     uint32_t refusal;
@@ -114,6 +119,23 @@ struct hilofanur_a64_run_answer {
 struct hilofanur_a64_run_answer hilofanur_a64_run(
     const uint8_t *block, size_t block_length, uint64_t address, uint8_t *state, uint64_t budget, uint8_t *memory,
     size_t memory_length, uint64_t base);
+
+struct hilofanur_list_answer {
+    uint64_t refusal;
+    uint64_t length; /* the listing's bytes */
+    uint64_t offset; /* beside refusal 13 the byte offset of some word outside the forms, else 0 */
+};
+
+/* List: the words of block as text, written at the front of output; the rest of output stays. A line for each word:
+ *
+ *   00000000 d2820040 movz x0, #4098, lsl #0
+ *
+ * its byte offset and the word, eight hexadecimal digits each, the Arm manual's unaliased assembler form, a line feed. No
+ * zero byte ends the text. HILOFANUR_LONGEST_LINE bytes for each word are enough. The forms are the 24 that A64 run
+ * reads. Refusals 12 to 14.
+ */
+struct hilofanur_list_answer hilofanur_list(
+    const uint8_t *block, size_t block_length, uint8_t *output, size_t output_length);
 
 #ifdef __cplusplus
 }

@@ -1,4 +1,4 @@
-"""What both recorders share: SplitMix64, edge values, records, and the machine."""
+"""What the recorders share: SplitMix64, edge values, records, and the machine."""
 
 import struct
 import subprocess
@@ -70,8 +70,8 @@ def machine(command, requests, size):
     return [done.stdout[i:i + size] for i in range(0, len(done.stdout), size)]
 
 
-def disassemble(objdump, flags, code):
-    """The mnemonic at each offset, as binutils reads the code."""
+def disassembly(objdump, flags, code):
+    """Mnemonic and operands at each offset, as binutils reads the code."""
     with open("code.bin", "wb") as file:
         file.write(code)
     lines = subprocess.run([objdump, "-b", "binary", "-D", *flags, "code.bin"],
@@ -80,8 +80,13 @@ def disassemble(objdump, flags, code):
     for line in lines:
         parts = line.split("\t")
         if len(parts) >= 3 and parts[0].strip().endswith(":"):
-            found[int(parts[0].strip()[:-1], 16)] = parts[2].strip()
+            found[int(parts[0].strip()[:-1], 16)] = [part.strip() for part in parts[2:]]
     return found
+
+
+def disassemble(objdump, flags, code):
+    """The mnemonic at each offset."""
+    return {offset: parts[0] for offset, parts in disassembly(objdump, flags, code).items()}
 
 
 def write(path, magic, records):

@@ -32,14 +32,14 @@ pub load-add : (a b : ℕ) (m : List ℕ) (i : ℕ) → load (a + b) m i ≡ loa
 unfolding load
 load-add a b m i = number-take a b (drop i m) ∙ rw (drop-drop a i m)
 
-bytes-add : (a b v : ℕ) → bytes (a + b) v ≡ bytes a v ++ bytes b (v / 256 ^ a)
+pub bytes-add : (a b v : ℕ) → bytes (a + b) v ≡ bytes a v ++ bytes b (v / 256 ^ a)
 unfolding bytes
 bytes-add zero b v = rw (zero-add b, div-one v)
 bytes-add (suc a) b v =
     rw (suc-add a b, pow-suc 256 a, mul-comm (256 ^ a) 256, ← div-div-eq-div-mul v 256 (256 ^ a), bytes-add a b (v / 256))
 
 -- only the low k bytes of a number count
-bytes-low : (k v : ℕ) → bytes k (v % 256 ^ k) ≡ bytes k v
+pub bytes-low : (k v : ℕ) → bytes k (v % 256 ^ k) ≡ bytes k v
 unfolding bytes
 bytes-low zero v = refl
 bytes-low (suc k) v =

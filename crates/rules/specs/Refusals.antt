@@ -1,4 +1,4 @@
--- Document 01's refusals by number: the one table. The definitions and the code name them; tools/numbers holds the header and the crate to it.
+-- The refusals by number, document 01's and those of its requests: the one table. The definitions and the code name them; tools/numbers holds the header and the crate to it.
 use Prim.Native.Nat.{ℕ}
 
 abbrev pub accepted : ℕ
@@ -47,3 +47,15 @@ block-length = 10
 -- memory base plus memory length exceeds 2^64
 abbrev pub memory-exceeds-top : ℕ
 memory-exceeds-top = 11
+
+-- block length not a multiple of 4 or above 2^32
+abbrev pub listing-length : ℕ
+listing-length = 12
+
+-- a word outside the forms
+abbrev pub outside-forms : ℕ
+outside-forms = 13
+
+-- the output is shorter than the listing
+abbrev pub listing-short : ℕ
+listing-short = 14

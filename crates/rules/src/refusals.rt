@@ -1,4 +1,4 @@
-// Document 01's refusals, by number.
+// The refusals, by number.
 pub const SLOT_OFFSET: u32 = 1;
 
 pub const LIMIT_ZERO: u32 = 2;
@@ -20,3 +20,9 @@ pub const REGISTER_ZERO: u32 = 9;
 pub const BLOCK_LENGTH: u32 = 10;
 
 pub const MEMORY_EXCEEDS_TOP: u32 = 11;
+
+pub const LISTING_LENGTH: u32 = 12;
+
+pub const OUTSIDE_FORMS: u32 = 13;
+
+pub const LISTING_SHORT: u32 = 14;

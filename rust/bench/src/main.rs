@@ -1,5 +1,6 @@
 //! Nanoseconds of the proved operations beside plain Rust on the same inputs, in one run.
 
+mod listing;
 mod place;
 mod runs;
 mod translation;
@@ -13,7 +14,7 @@ const ROUNDS: usize = 40;
 const UNITS: usize = 16384;
 
 /// A row: the least time of a round, in nanoseconds a unit, of each side; the two take turns.
-/// A round has every input at least once, and each input has so many units.
+/// A round has every input at least once, and all inputs together have so many units.
 fn row<T, A, B>(
     name: &str,
     (units, unit): (usize, &str),
@@ -21,7 +22,7 @@ fn row<T, A, B>(
     mut proved: impl FnMut(&T) -> A,
     mut plain: impl FnMut(&T) -> B,
 ) {
-    let turns = (UNITS / (inputs.len() * units)).max(1);
+    let turns = (UNITS / units).max(1);
     let round = || inputs.iter().cycle().take(turns * inputs.len());
     let mut least = (f64::MAX, f64::MAX);
     for _ in 0..ROUNDS {
@@ -32,7 +33,7 @@ fn row<T, A, B>(
         least.0 = least.0.min((middle - start).as_nanos() as f64);
         least.1 = least.1.min(middle.elapsed().as_nanos() as f64);
     }
-    let all = (turns * inputs.len() * units) as f64;
+    let all = (turns * units) as f64;
     let (one, other) = (least.0 / all, least.1 / all);
     println!("{name:36} {one:9.2} {other:9.2} ns a {unit:12} {:6.2}", one / other);
 }
@@ -48,4 +49,5 @@ fn main() {
     translation::rows();
     runs::rows();
     place::rows();
+    listing::rows();
 }

@@ -39,7 +39,7 @@ fn place(length: usize) {
     assert!(store == plain_store);
     row(
         &format!("Place, {length} bytes"),
-        (length, "byte"),
+        (length * used.len(), "byte"),
         &used,
         |&used| boundary::place(&mut store, used, &code),
         |&used| plain_place(&mut plain_store, used, &code),

@@ -53,7 +53,7 @@ fn rv64(length: usize, number: usize) {
     }
     row(
         &format!("RV64 run, {number} blocks of {length}"),
-        (length, "instruction"),
+        (length * number, "instruction"),
         &blocks,
         |block| proved_rv64(block, &mut bytes),
         |block| plain_rv64(block, &mut plain),
@@ -88,7 +88,7 @@ fn a64(length: usize, number: usize) {
     }
     row(
         &format!("A64 run, {number} runs of {length}"),
-        (length, "word"),
+        (length * number, "word"),
         &blocks,
         |block| {
             let mut bytes = start_bytes;

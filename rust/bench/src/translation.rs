@@ -48,7 +48,7 @@ fn measure(name: &str, count: usize, blocks: &[Vec<u8>]) {
     }
     row(
         name,
-        (count, "instruction"),
+        (count * blocks.len(), "instruction"),
         blocks,
         |block| proved(block, black_box(&mut one)),
         |block| plain(block, black_box(&mut other)),

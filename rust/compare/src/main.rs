@@ -2,6 +2,7 @@
 
 mod a64;
 mod blocks;
+mod listing;
 mod place;
 mod rv64;
 mod translate;
@@ -83,6 +84,7 @@ fn main() {
         run::<place::Place>(count, seed),
         run::<rv64::Rv64>(count, seed),
         run::<a64::A64>(count, seed),
+        run::<listing::Listing>(count, seed),
         run::<blocks::Blocks>(count, seed),
     ];
     if same.contains(&false) {

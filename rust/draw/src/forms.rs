@@ -182,6 +182,11 @@ pub const A64: [Form; 24] = [
     (0xD65F_03C0, 0xFFFF_FFFF), // RET
 ];
 
+/// Whether a word has one of the 24 forms.
+pub fn is_a64(word: u32) -> bool {
+    A64.iter().any(|&(value, fixed)| word & fixed == value)
+}
+
 /// The word of a form whose free bits are these.
 pub fn encode((value, fixed): Form, free: u32) -> u32 {
     value | free & !fixed

@@ -1,4 +1,4 @@
-//! The four functions as the library has them: numbers and byte slices in, an answer of numbers out.
+//! The five functions as the library has them: numbers and byte slices in, an answer of numbers out.
 //!
 //! The crate's own functions stand on these. They are public for comparisons, which read every number of an answer.
 
@@ -56,6 +56,18 @@ pub struct A64RunAnswer {
     pub steps: u64,
 }
 
+/// What `hilofanur_list` answers.
+#[repr(C)]
+#[derive(Clone, Copy, Debug, Default, PartialEq, Eq)]
+pub struct ListAnswer {
+    /// Document 02's number, 0 where accepted.
+    pub refusal: u64,
+    /// The listing's bytes.
+    pub length: u64,
+    /// Beside refusal 13 the byte offset of some word outside the forms, else 0.
+    pub offset: u64,
+}
+
 // include/hilofanur.h has the same in C.
 extern "C" {
     fn hilofanur_translate(
@@ -96,6 +108,12 @@ extern "C" {
         memory_length: usize,
         base: u64,
     ) -> A64RunAnswer;
+    fn hilofanur_list(
+        block: *const u8,
+        block_length: usize,
+        output: *mut u8,
+        output_length: usize,
+    ) -> ListAnswer;
 }
 
 /// Translate; `output` takes the block at its front.
@@ -162,4 +180,10 @@ pub fn a64_run(
             base,
         )
     }
+}
+
+/// List; `output` takes the lines at its front.
+pub fn list(block: &[u8], output: &mut [u8]) -> ListAnswer {
+    // SAFETY: as in `translate`.
+    unsafe { hilofanur_list(block.as_ptr(), block.len(), output.as_mut_ptr(), output.len()) }
 }

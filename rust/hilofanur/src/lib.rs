@@ -1,9 +1,11 @@
 //! RV64 guest blocks in, A64 words out: the proved library behind a safe interface.
 //!
-//! The four operations are document 01's. Each is accepted, or refused by number with every lent byte unchanged.
+//! Four of the five operations are document 01's, the listing is document 02's. Each is accepted, or refused by number with
+//! every lent byte unchanged.
 //!
 //! ```
-//! use hilofanur::{a64_run, place, rv64_run, translate, A64State, End, Guest, Host, Refusal, Registers};
+//! use hilofanur::{a64_run, list, place, rv64_run, translate};
+//! use hilofanur::{A64State, End, Guest, Host, Refusal, Registers};
 //!
 //! // c.li x10, -1 at 0x1000
 //! let guest = Guest { bytes: &[0x7d, 0x55], pc: 0x1000, limit: 64, ignore_ebreak: false };
@@ -15,6 +17,11 @@
 //! let mut store = vec![0; 4096];
 //! let placed = place(&mut store, 0, &output[..block.length])?;
 //! let words = &store[placed.start..placed.used];
+//!
+//! let listing = list(words)?;
+//! assert_eq!(listing.lines().count(), 8);
+//! assert_eq!(listing.lines().next(), Some("00000000 d29fffeb movz x11, #65535, lsl #0"));
+//! assert_eq!(listing.lines().last(), Some("0000001c d65f03c0 ret x30"));
 //!
 //! // The slots of the 32 registers are the whole memory, X0 points to slot 0.
 //! let mut slots = Registers::default().to_bytes();
@@ -56,11 +63,14 @@ pub mod boundary;
 mod refusal;
 mod state;
 
-pub use refusal::Refusal;
+pub use refusal::{ListRefused, Refusal};
 pub use state::{A64State, End, Registers};
 
 /// The bytes of the longest block: 1,862 words.
 pub const LONGEST_BLOCK: usize = 4 * 1_862;
+
+/// The bytes of the longest line of a listing: of one whose text is `subs xzr, x30, x30, lsl #0`.
+pub const LONGEST_LINE: usize = 45;
 
 /// The guest's code and how far a block may go.
 #[derive(Clone, Copy, Debug)]
@@ -178,9 +188,42 @@ pub fn a64_run(
     Ok(A64Run { end, steps: answer.steps })
 }
 
+/// List: a line for each word of `block`, its byte offset, the word, and the Arm manual's unaliased assembler form.
+///
+/// It allocates the text, [`LONGEST_LINE`] bytes a word, where it is not refused. [`list_into`] allocates nothing, and tells
+/// where a word outside the forms stands.
+///
+/// # Errors
+/// Refusals 12 and 13.
+pub fn list(block: &[u8]) -> Result<String, Refusal> {
+    // With no output 12 and 13 are told before 14.
+    match list_into(block, &mut []) {
+        Ok(_) => return Ok(String::new()),
+        Err(refused) if refused.refusal == Refusal::ListingShort => {}
+        Err(refused) => return Err(refused.refusal),
+    }
+    let mut output = vec![0; block.len() / 4 * LONGEST_LINE];
+    let length = list_into(block, &mut output)?;
+    output.truncate(length);
+    Ok(String::from_utf8(output).expect("the library's lines are ASCII"))
+}
+
+/// List: writes the lines at the front of `output`, whose other bytes stay; their length.
+///
+/// # Errors
+/// Refusals 12 to 14.
+pub fn list_into(block: &[u8], output: &mut [u8]) -> Result<usize, ListRefused> {
+    let answer = boundary::list(block, output);
+    accepted(answer.refusal as u32).map_err(|refusal| ListRefused {
+        refusal,
+        offset: (refusal == Refusal::OutsideForms).then_some(answer.offset as usize),
+    })?;
+    Ok(answer.length as usize)
+}
+
 fn accepted(number: u32) -> Result<(), Refusal> {
     match number {
         0 => Ok(()),
-        number => Err(Refusal::from_number(number).expect("the library refuses by 1 to 11")),
+        number => Err(Refusal::from_number(number).expect("the library refuses by 1 to 14")),
     }
 }

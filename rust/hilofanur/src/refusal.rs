@@ -1,4 +1,4 @@
-//! Document 01's refusals.
+//! The refusals of documents 01 and 02.
 
 use std::error::Error;
 use std::fmt;
@@ -37,13 +37,19 @@ pub enum Refusal {
     BlockLength = 10,
     /// A64 run: the memory base plus the memory length exceeds 2^64.
     MemoryExceedsTop = 11,
+    /// List: the block length is not a multiple of 4 or above 2^32.
+    ListingLength = 12,
+    /// List: a word is outside the forms.
+    OutsideForms = 13,
+    /// List: the output is shorter than the listing.
+    ListingShort = 14,
 }
 
 use Refusal::*;
 
 impl Refusal {
     /// Every refusal, by number.
-    pub const ALL: [Refusal; 11] = [
+    pub const ALL: [Refusal; 14] = [
         SlotOffset,
         LimitZero,
         OddPc,
@@ -55,9 +61,12 @@ impl Refusal {
         RegisterZero,
         BlockLength,
         MemoryExceedsTop,
+        ListingLength,
+        OutsideForms,
+        ListingShort,
     ];
 
-    /// Document 01's number, 1 to 11.
+    /// Its number, 1 to 14.
     pub fn number(self) -> u32 {
         self as u32
     }
@@ -67,7 +76,7 @@ impl Refusal {
         Refusal::ALL.into_iter().find(|refusal| refusal.number() == number)
     }
 
-    /// What the number means, in document 01's words.
+    /// What the number means, in the documents' words.
     pub fn meaning(self) -> &'static str {
         match self {
             SlotOffset => "slot offset not a multiple of 8 or above 32,512",
@@ -83,6 +92,9 @@ impl Refusal {
             RegisterZero => "register 0 not zero",
             BlockLength => "block length not a multiple of 4",
             MemoryExceedsTop => "memory base plus memory length exceeds 2^64",
+            ListingLength => "block length not a multiple of 4 or above 2^32",
+            OutsideForms => "a word outside the forms",
+            ListingShort => "the output is shorter than the listing",
         }
     }
 }
@@ -94,3 +106,36 @@ impl fmt::Display for Refusal {
 }
 
 impl Error for Refusal {}
+
+/// Why [`crate::list_into`] was refused.
+///
+/// ```
+/// use hilofanur::{list_into, Refusal};
+/// let refused = list_into(&[0; 8], &mut []).unwrap_err();
+/// assert_eq!(refused.refusal, Refusal::OutsideForms);
+/// assert!(matches!(refused.offset, Some(0 | 4)));
+/// ```
+#[derive(Clone, Copy, Debug, PartialEq, Eq, Hash)]
+pub struct ListRefused {
+    /// The refusal: 12, 13 or 14.
+    pub refusal: Refusal,
+    /// Beside 13, and only there: the byte offset of some word outside the forms, not always the lowest.
+    pub offset: Option<usize>,
+}
+
+impl From<ListRefused> for Refusal {
+    fn from(refused: ListRefused) -> Refusal {
+        refused.refusal
+    }
+}
+
+impl fmt::Display for ListRefused {
+    fn fmt(&self, f: &mut fmt::Formatter) -> fmt::Result {
+        match self.offset {
+            None => write!(f, "{}", self.refusal),
+            Some(offset) => write!(f, "{}, at byte {offset}", self.refusal),
+        }
+    }
+}
+
+impl Error for ListRefused {}

@@ -54,6 +54,23 @@ fn raw_binaries() {
     assert!(output.status.success());
 }
 
+/// The first block is listed: two C.NOP, and the end of the block.
+#[test]
+fn listing() {
+    // Two c.nop; ecall
+    let nops = raw("nops", &[0x0001_0001, 0x73]);
+    let output = dispatcher(&[nops.to_str().unwrap()]);
+    let expected = [
+        "  block at 10000: 2 guest instructions, 4 words",
+        "    00000000 d2800080 movz x0, #4, lsl #0",
+        "    00000004 f2a00020 movk x0, #1, lsl #16",
+        "    00000008 d2800041 movz x1, #2, lsl #0",
+        "    0000000c d65f03c0 ret x30",
+    ];
+    assert_eq!(lines(&output)[1..6], expected);
+    assert!(output.status.success());
+}
+
 #[test]
 fn what_is_not_served() {
     // csrr a0, cycle; ld a0, 0(x0); amoadd.w a0, a1, (sp); zeros; a jump out of memory

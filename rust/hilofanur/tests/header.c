@@ -1,4 +1,4 @@
-/* The four functions from C. Prints document 01's row 5 as its program does, then a line for each of the others. */
+/* The five functions from C. Prints document 01's row 5 as its program does, then a line for each of the others. */
 #include "hilofanur.h"
 
 #include <inttypes.h>
@@ -39,5 +39,15 @@ int main(void)
     struct hilofanur_a64_run_answer run =
         hilofanur_a64_run(store + placed.start, block.length, 0, state, 100, slots, sizeof slots, 0);
     printf("end %d %" PRIu64 " %02x%02x\n", run.end == HILOFANUR_RETURNED, run.steps, state[1], state[0]);
+
+    uint8_t listing[5 * HILOFANUR_LONGEST_LINE];
+    struct hilofanur_list_answer listed = hilofanur_list(output, block.length, listing, sizeof listing);
+    uint64_t length = listed.length;
+    printf("listed %" PRIu64 " %" PRIu64 "\n%.*s", length, listed.offset, (int)length, (const char *)listing);
+    printf("refused %" PRIu64 "\n", hilofanur_list(output, 3, listing, 0).refusal);
+    const uint8_t zeros[8] = {0};
+    listed = hilofanur_list(zeros, sizeof zeros, listing, 0);
+    printf("refused %" PRIu64 " %d\n", listed.refusal, listed.offset == 0 || listed.offset == 4);
+    printf("refused %" PRIu64 "\n", hilofanur_list(output, block.length, listing, length - 1).refusal);
     return 0;
 }

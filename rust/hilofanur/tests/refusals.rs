@@ -1,8 +1,12 @@
 //! Every refusal of every operation: the lowest number that applies, other numbers zero, lent bytes unchanged.
+//! Beside 13 the offset is that of a word outside the forms.
 
-use hilofanur::boundary::{self, A64RunAnswer, PlaceAnswer, Rv64RunAnswer, TranslateAnswer};
-use hilofanur::{a64_run, place, rv64_run, translate, A64State, End, Guest, Host, Refusal};
-use hilofanur::{Placed, Registers};
+use draw::forms::is_a64;
+use draw::words;
+use hilofanur::boundary::{self, A64RunAnswer, ListAnswer, PlaceAnswer};
+use hilofanur::boundary::{Rv64RunAnswer, TranslateAnswer};
+use hilofanur::{a64_run, list, list_into, place, rv64_run, translate};
+use hilofanur::{A64State, End, Guest, Host, ListRefused, Placed, Refusal, Registers};
 
 const HOST: Host =
     Host { slot_offset: 0, memory_helper: 0x10000, helper32: 0x20000, helper16: 0x30000 };
@@ -153,6 +157,71 @@ fn a64_run_by_number() {
     assert_eq!((run.end, run.steps, state.nzcv), (End::OffTheEnd, 0, 15));
 }
 
+fn refuse_list(number: u64, block: &[u8], room: usize) {
+    let mut output = vec![FILL; room];
+    let answer = boundary::list(block, &mut output);
+    let offset = if number == 13 { answer.offset } else { 0 };
+    assert_eq!(answer, ListAnswer { refusal: number, length: 0, offset }, "{block:x?} {room}");
+    assert_eq!(output, vec![FILL; room]);
+    let outside = (number == 13).then_some(offset as usize);
+    if let Some(offset) = outside {
+        assert!(offset.is_multiple_of(4) && offset < block.len(), "{block:x?} {offset}");
+        assert!(!is_a64(words(block)[offset / 4]), "{block:x?} {offset}");
+    }
+    let refusal = Refusal::from_number(number as u32).unwrap();
+    let refused = ListRefused { refusal, offset: outside };
+    assert_eq!(list_into(block, &mut output), Err(refused), "{block:x?} {room}");
+    assert_eq!(output, vec![FILL; room]);
+    if number != 14 {
+        assert_eq!(list(block), Err(refusal));
+    }
+}
+
+#[test]
+fn list_by_number() {
+    let (ret, unreadable) = (0xD65F_03C0_u32.to_le_bytes(), 0xD65F_03E0_u32.to_le_bytes());
+    let line = "00000000 d65f03c0 ret x30\n".len();
+    // 12 before 13 and 14: the first word is outside the forms, the output short or long enough.
+    for length in [1, 2, 3, 5, 6, 7] {
+        refuse_list(12, &[unreadable, ret].concat()[..length], 0);
+        refuse_list(12, &[ret, unreadable].concat()[..length], 100);
+    }
+    // 13 before 14, wherever the word stands.
+    for at in 0..5 {
+        let mut block = [ret; 5];
+        block[at] = unreadable;
+        for room in [0, 1, line, 5 * line - 1, 5 * line, 500] {
+            refuse_list(13, &block.concat(), room);
+        }
+    }
+    // One bit away from a form: LSL #1, MOVZ of 32 bits, MOVN, RET X31, CMP into X30, ADD X0, SP.
+    for word in [0x8B00_0400, 0x5282_0040, 0x9282_0040, 0xD65F_03E0, 0xEB1E_03DE, 0x9100_03E0] {
+        refuse_list(13, &u32::to_le_bytes(word), 100);
+    }
+    for room in 0..2 * line {
+        refuse_list(14, &[ret, ret].concat(), room);
+    }
+}
+
+#[test]
+fn list_accepts_the_edges() {
+    let block = 0xD65F_03C0_u32.to_le_bytes().repeat(2);
+    let text = "00000000 d65f03c0 ret x30\n00000004 d65f03c0 ret x30\n";
+    for room in [text.len(), text.len() + 1, 100, 5_000] {
+        let mut output = vec![FILL; room];
+        let answer = boundary::list(&block, &mut output);
+        assert_eq!(answer, ListAnswer { refusal: 0, length: text.len() as u64, offset: 0 });
+        let (written, rest) = output.split_at(text.len());
+        assert_eq!((written, rest), (text.as_bytes(), &vec![FILL; room - text.len()][..]));
+    }
+    for room in [0, 1, 100] {
+        let mut output = vec![FILL; room];
+        assert_eq!(boundary::list(&[], &mut output), ListAnswer::default());
+        assert_eq!((list_into(&[], &mut output), output), (Ok(0), vec![FILL; room]));
+    }
+    assert_eq!((list(&[]).as_deref(), list(&block).as_deref()), (Ok(""), Ok(text)));
+}
+
 #[test]
 fn numbers_and_words() {
     for (refusal, number) in Refusal::ALL.into_iter().zip(1..) {
@@ -164,6 +233,10 @@ fn numbers_and_words() {
     for (end, number) in End::ALL.into_iter().zip(1..) {
         assert_eq!((end.number(), End::from_number(number)), (number, Some(end)));
     }
-    assert_eq!((Refusal::from_number(0), Refusal::from_number(12)), (None, None));
+    assert_eq!((Refusal::from_number(0), Refusal::from_number(15)), (None, None));
     assert_eq!((End::from_number(0), End::from_number(7)), (None, None));
+    let refused = list_into(&[0; 4], &mut []).unwrap_err();
+    assert_eq!(refused.to_string(), "refused 13: a word outside the forms, at byte 0");
+    let refused = list_into(&[0; 3], &mut []).unwrap_err();
+    assert_eq!(refused.to_string(), Refusal::ListingLength.to_string());
 }

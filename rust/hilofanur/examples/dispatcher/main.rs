@@ -3,7 +3,8 @@
 //! `dispatcher [FILE [ENTRY [BASE]]]`: an ELF64 file, or a raw binary that goes to BASE; numbers in hexadecimal.
 //! Without a file it takes examples/centroid/centroid.
 //!
-//! A block is translated, placed and then run by the library's A64 run, which stands in for the Arm processor.
+//! A block is translated, placed and then run by the library's A64 run, which stands in for the Arm processor. The first
+//! one's words are listed.
 //! A block that ends in a helper instruction runs up to its call; the dispatcher compares the call's arguments,
 //! does the load or store itself and goes on at the next PC with a new block, so the words behind the call stay unused.
 //! ECALL ends a block too: `write` (64) is served, `exit` (93) ends the program, and so does EBREAK.
@@ -14,7 +15,7 @@ mod image;
 mod memory;
 
 use code::Code;
-use hilofanur::{Block, Guest, Refusal, Registers};
+use hilofanur::{list, Block, Guest, Refusal, Registers};
 use host::{instruction, Done, HostSide};
 use image::Image;
 use memory::{Access, Memory};
@@ -89,7 +90,7 @@ impl Dispatcher {
                         print_block(self.pc, &block);
                     }
                     if translated == 0 {
-                        print_words(words.0);
+                        print_listing(words.0)?;
                     }
                     let done = self.host.run(&guest, block, words, &self.registers)?;
                     self.take(&guest, block.helper, done)?;
@@ -177,12 +178,10 @@ fn print_block(pc: u64, block: &Block) {
 }
 
 /// Lists a block's words.
-fn print_words(words: &[u8]) {
-    for line in words.chunks(32) {
-        let words =
-            line.chunks(4).map(|b| format!("{:02x}{:02x}{:02x}{:02x}", b[3], b[2], b[1], b[0]));
-        println!("    {}", words.collect::<Vec<_>>().join(" "));
-    }
+fn print_listing(words: &[u8]) -> Result<(), String> {
+    let listing = list(words).map_err(|refusal| format!("list: {refusal}"))?;
+    listing.lines().for_each(|line| println!("    {line}"));
+    Ok(())
 }
 
 fn hexadecimal(text: &str) -> Result<u64, String> {

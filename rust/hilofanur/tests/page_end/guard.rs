@@ -40,17 +40,27 @@ pub struct Guarded {
 }
 
 impl Guarded {
-    pub fn new(bytes: &[u8], edge: Edge) -> Guarded {
-        let inside = bytes.len().div_ceil(PAGE).max(1) * PAGE;
+    fn inaccessible(length: usize, edge: Edge) -> Guarded {
+        let inside = length.div_ceil(PAGE).max(1) * PAGE;
         let size = inside + 2 * PAGE;
         // SAFETY: a mapping of its own, not yet shared with anyone.
         let map = unsafe { mmap(null_mut(), size, PROT_NONE, MAP_PRIVATE_ANONYMOUS, -1, 0) };
         assert_ne!(map as isize, -1, "mmap");
         let map: *mut u8 = map.cast();
-        let first = PAGE + if edge == Edge::End { inside - bytes.len() } else { 0 };
+        let first = PAGE + if edge == Edge::End { inside - length } else { 0 };
         // SAFETY: `first` and the bytes behind it are inside the mapping.
-        let mut guarded =
-            Guarded { map, inside, first: unsafe { map.add(first) }, length: bytes.len() };
+        Guarded { map, inside, first: unsafe { map.add(first) }, length }
+    }
+
+    /// Zeros that can only be read, and take no memory.
+    pub fn zeros(length: usize) -> Guarded {
+        let mut guarded = Guarded::inaccessible(length, Edge::End);
+        guarded.protect(PROT_READ);
+        guarded
+    }
+
+    pub fn new(bytes: &[u8], edge: Edge) -> Guarded {
+        let mut guarded = Guarded::inaccessible(bytes.len(), edge);
         guarded.protect(PROT_READ | PROT_WRITE);
         guarded.copy_from_slice(bytes);
         guarded

@@ -1,12 +1,12 @@
-//! Recorded answers through the library, every lent slice between inaccessible pages: a byte too far faults.
+//! Recorded answers, and listings, through the library, every lent slice between inaccessible pages: a byte too far faults.
 //! Slices that are lent to be read only stand in pages that cannot be written.
 
 mod guard;
 
 use guard::{Edge, Guarded};
-use hilofanur::boundary::{a64_run, place, rv64_run, translate};
-use hilofanur::boundary::{A64RunAnswer, PlaceAnswer, Rv64RunAnswer, TranslateAnswer};
-use hilofanur::{Guest, Host, Registers};
+use hilofanur::boundary::{a64_run, list, place, rv64_run, translate};
+use hilofanur::boundary::{A64RunAnswer, ListAnswer, PlaceAnswer, Rv64RunAnswer, TranslateAnswer};
+use hilofanur::{Guest, Host, Refusal, Registers, LONGEST_LINE};
 use std::os::unix::process::ExitStatusExt;
 use std::process::Command;
 use steppers::records::{a64_cases, rv64_cases, rv64_rules, Reader};
@@ -137,6 +137,58 @@ fn a64_runs() {
             assert_eq!(*memory, case.memory_after, "{:x?}", case.block);
         }
     }
+}
+
+/// Lists a block between the pages, the output exactly as long as the listing, a byte shorter, longer, or empty; the plain
+/// writer's refusal where it is long enough.
+fn listed(block: &[u8], edge: Edge) -> u64 {
+    let mut plain = vec![FILL; block.len().div_ceil(4) * LONGEST_LINE];
+    let whole = steppers::list(block, &mut plain);
+    let length = whole.length as usize;
+    let block = Guarded::read_only(block, edge);
+    for room in [length, length.saturating_sub(1), length + 7, plain.len(), 0] {
+        let mut output = Guarded::new(&vec![FILL; room], edge);
+        let mut expected = vec![FILL; room];
+        let numbers = steppers::list(&block, &mut expected);
+        let answer = list(&block, &mut output);
+        let same = (answer.refusal, answer.length) == (numbers.refusal, numbers.length);
+        assert!(same && *output == expected, "{:x?} {room}: {answer:?}, {numbers:?}", &*block);
+    }
+    whole.refusal
+}
+
+/// The words of some recorded translations and of A64 runs, which have words outside the forms too; and a byte less.
+#[test]
+fn listings() {
+    let mut r = Reader(BLOCKS);
+    let number = r.header(b"A64BLOCK");
+    r.u64();
+    let blocks: Vec<Vec<u8>> = (0..number).map(|_| Case::read(&mut r).words).collect();
+    let runs = a64_cases(A64_RULES).into_iter().map(|case| case.block);
+    let mut met = [0; 15];
+    for mut block in blocks.into_iter().step_by(8).chain(runs) {
+        for edge in EDGES {
+            met[listed(&block, edge) as usize] += 1;
+        }
+        block.pop();
+        met[listed(&block, Edge::End) as usize] += 1;
+    }
+    assert!(met[0] > 1_000 && met[12] > 500 && met[13] > 100, "{met:?}");
+}
+
+/// Refusal 12's bound, with zeros, which are words outside the forms.
+#[test]
+fn listings_of_4_gib() {
+    let zeros = Guarded::zeros((1 << 32) + 4);
+    let mut output = [FILL; 100];
+    let answer = list(&zeros, &mut output);
+    assert_eq!(answer, ListAnswer { refusal: 12, length: 0, offset: 0 });
+    assert_eq!(hilofanur::list(&zeros), Err(Refusal::ListingLength));
+    let answer = list(&zeros[..1 << 32], &mut output);
+    assert_eq!((answer.refusal, answer.length, answer.offset % 4), (13, 0, 0));
+    assert!(answer.offset < 1 << 32);
+    assert_eq!(hilofanur::list(&zeros[..1 << 32]), Err(Refusal::OutsideForms));
+    assert_eq!(output, [FILL; 100]);
 }
 
 const TRY: &str = "HILOFANUR_GUARD";

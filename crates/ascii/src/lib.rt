@@ -1,0 +1,133 @@
+// Bytes and numbers written from a place on: each function that answers a place answers the one after what it wrote.
+ghost use mathlib.Core.Path.{_≡_};
+ghost use mathlib.Core.List.{_∷_, []};
+ghost use Prim.Native.Nat.{_+_, _/_, _%_, _<_, _≤_};
+ghost use lib.ListN.{length};
+ghost use Rattle.le.specs.Le.{bytes};
+ghost use Rattle.ascii.specs.Ascii.{digit, hex, decimal};
+ghost use Rattle.ascii.specs.Parts.{over, Put};
+
+pub fn put_byte(out: &mut [u8], at: usize, b: u8) -> usize
+    requires { ⌜ at + 1 ≤ length (now out) ⌝ }
+    ensures { λ r. ⌜ Put (now (out .entry)) at (b ∷ []) (now (out .exit)) r ⌝ }
+{
+    out[at] = b;
+    at + 1
+}
+
+// Two, four and eight bytes, the lowest of v first.
+pub fn put16(out: &mut [u8], at: usize, v: u16) -> usize
+    requires { ⌜ at + 2 ≤ length (now out) ⌝ }
+    ensures { λ r. ⌜ Put (now (out .entry)) at (bytes 2 v) (now (out .exit)) r ⌝ }
+{
+    le::store16(out, at, v);
+    at + 2
+}
+
+pub fn put32(out: &mut [u8], at: usize, v: u32) -> usize
+    requires { ⌜ at + 4 ≤ length (now out) ⌝ }
+    ensures { λ r. ⌜ Put (now (out .entry)) at (bytes 4 v) (now (out .exit)) r ⌝ }
+{
+    le::store32(out, at, v);
+    at + 4
+}
+
+pub fn put64(out: &mut [u8], at: usize, v: u64) -> usize
+    requires { ⌜ at + 8 ≤ length (now out) ⌝ }
+    ensures { λ r. ⌜ Put (now (out .entry)) at (bytes 8 v) (now (out .exit)) r ⌝ }
+{
+    le::store64(out, at, v);
+    at + 8
+}
+
+fn digit(d: u32) -> u8
+    requires { ⌜ d < 16 ⌝ }
+    ensures { λ r. ⌜ r ≡ digit d ⌝ }
+{
+    if d < 10 {
+        return (48 + d) as u8;
+    }
+    (87 + d) as u8
+}
+
+fn put_hex2(out: &mut [u8], at: usize, v: u32) -> usize
+    requires { ⌜ at + 2 ≤ length (now out) ⌝ }
+    ensures { λ r. ⌜ Put (now (out .entry)) at (hex 2 v) (now (out .exit)) r ⌝ }
+{
+    let at = put_byte(out, at, digit(v / 16 % 16));
+    put_byte(out, at, digit(v % 16))
+}
+
+fn put_hex4(out: &mut [u8], at: usize, v: u32) -> usize
+    requires { ⌜ at + 4 ≤ length (now out) ⌝ }
+    ensures { λ r. ⌜ Put (now (out .entry)) at (hex 4 v) (now (out .exit)) r ⌝ }
+{
+    let at = put_hex2(out, at, v / 0x100);
+    put_hex2(out, at, v)
+}
+
+// A word in eight digits.
+pub fn put_hex8(out: &mut [u8], at: usize, v: u32) -> usize
+    requires { ⌜ at + 8 ≤ length (now out) ⌝ }
+    ensures { λ r. ⌜ Put (now (out .entry)) at (hex 8 v) (now (out .exit)) r ⌝ }
+{
+    let at = put_hex4(out, at, v / 0x1_0000);
+    put_hex4(out, at, v)
+}
+
+// Two decimal digits.
+fn put_pair(out: &mut [u8], at: usize, n: u32) -> usize
+    requires { ⌜ (at + 2 ≤ length (now out)) × (n < 100) ⌝ }
+    ensures { λ r. ⌜ Put (now (out .entry)) at (digit (n / 10) ∷ digit (n % 10) ∷ []) (now (out .exit)) r ⌝ }
+{
+    let at = put_byte(out, at, digit(n / 10));
+    put_byte(out, at, digit(n % 10))
+}
+
+// A number of one or two.
+pub fn put_short(out: &mut [u8], at: usize, n: u32) -> usize
+    requires { ⌜ (at + length (decimal n) ≤ length (now out)) × (n < 100) ⌝ }
+    ensures { λ r. ⌜ Put (now (out .entry)) at (decimal n) (now (out .exit)) r ⌝ }
+{
+    if n < 10 {
+        return put_byte(out, at, digit(n));
+    }
+    put_pair(out, at, n)
+}
+
+// A number without leading zeros.
+pub fn put_decimal(out: &mut [u8], at: usize, n: u32) -> usize
+    requires { ⌜ (at + length (decimal n) ≤ length (now out)) × (n < 100000) ⌝ }
+    ensures { λ r. ⌜ Put (now (out .entry)) at (decimal n) (now (out .exit)) r ⌝ }
+{
+    if n < 100 {
+        return put_short(out, at, n);
+    }
+    if n < 10_000 {
+        let at = put_short(out, at, n / 100);
+        return put_pair(out, at, n % 100);
+    }
+    let at = put_short(out, at, n / 10_000);
+    let at = put_pair(out, at, n / 100 % 100);
+    put_pair(out, at, n % 100)
+}
+
+// How many digits it has.
+pub fn decimal_length(n: u32) -> usize
+    requires { ⌜ n < 100000 ⌝ }
+    ensures { λ r. ⌜ (r ≡ length (decimal n)) × (r ≤ 5) ⌝ }
+{
+    if n < 10 {
+        return 1;
+    }
+    if n < 100 {
+        return 2;
+    }
+    if n < 1000 {
+        return 3;
+    }
+    if n < 10_000 {
+        return 4;
+    }
+    5
+}

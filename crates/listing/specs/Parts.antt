@@ -1,0 +1,1 @@
+-- What the functions of this crate promise one another; no operation's contract reaches it.
