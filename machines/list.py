@@ -239,7 +239,7 @@ def listing(block):
 
 
 def record(code, refusal, offset, lines):
-    return (struct.pack("<H", len(code)) + code + struct.pack("<BIH", refusal, offset, len(lines)) + lines)
+    return struct.pack("<H", len(code)) + code + struct.pack("<BIH", refusal, offset, len(lines)) + lines
 
 
 def accepted(block):

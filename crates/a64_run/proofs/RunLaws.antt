@@ -13,7 +13,8 @@ use Rattle.a64_exec.specs.declared.exec.Stepped.{Stepped}
 use Rattle.a64_run.specs.declared.run.End.{End}
 use Rattle.a64_exec.specs.Exec.{State, machine, after, exec}
 use Rattle.a64_exec.specs.Parts.{Executed}
-use Rattle.a64_run.specs.Run.{words, Ran, ran, onward, run}
+use Rattle.le.specs.Le.{words}
+use Rattle.a64_run.specs.Run.{Ran, ran, onward, run}
 
 -- one word
 run-word : (w : ℕ) (ws : List ℕ) (at budget k : ℕ) (s : State) → 0 < budget

@@ -1,22 +1,18 @@
 -- The run of a block's words, and the operation A64 run (document 01). Definitions only.
 use mathlib.Core.Bool.{cond, not}
 use mathlib.Core.List.{List, [], _∷_}
-use Prim.Native.Nat.{ℕ, zero, suc, _+_, _/_, _%_, _^_}
+use Prim.Native.Nat.{ℕ, zero, suc, _+_, _%_, _^_}
 use lib.Dec.{eqb, ltb}
 use lib.ListN.{length}
 use Rattle.rules.specs.Refusals as Refusals
 use Rattle.word.specs.Word.{wrap}
-use Rattle.le.specs.Le.{numbers}
+use Rattle.le.specs.Le.{words}
 use Rattle.a64.specs.Forms.{decode}
 use Rattle.a64_exec.specs.declared.state.A64State.{A64State}
 use Rattle.a64_exec.specs.declared.exec.Outcome.{Outcome}
 use Rattle.a64_run.specs.declared.run.End.{End}
 use Rattle.a64_run.specs.declared.run.Answer.{Answer}
 use Rattle.a64_exec.specs.Exec.{State, machine, with-reg, After, exec}
-
--- the words of a block's bytes
-abbrev pub words : List ℕ → List ℕ
-words block = numbers 4 (length block / 4) block
 
 pub record Ran : Type 0 where
   pub end : End

@@ -1,3 +1,4 @@
-pub mod Texts
-pub mod Rows
 pub mod Laying
+pub mod Longest
+pub mod Rows
+pub mod Texts

@@ -1,7 +1,7 @@
 -- Digits of numbers. Assumes nothing.
-use mathlib.Core.Path.{_≡_, refl, sym, ap, _∙_}
-use mathlib.Core.List.{List, [], _∷_, _++_, append-assoc, append-nil}
-use Prim.Native.Nat.{ℕ, zero, suc, _+_, _*_, _/_, _%_, _^_, _≤_, _<_}
+use mathlib.Core.Path.{_≡_, refl}
+use mathlib.Core.List.{[], _∷_, _++_, append-assoc, append-nil}
+use Prim.Native.Nat.{ℕ, zero, suc, _+_, _/_, _%_, _^_, _≤_, _<_}
 use native.Mathlib.Nat.{add-zero, add-suc, div-one, div-div-eq-div-mul, pow-suc, mul-comm}
 use native.Mathlib.Omega.{arith}
 use mathlib.Core.Bool.{cond}
@@ -16,6 +16,11 @@ unfolding hex
 hex-add a zero v = rw (add-zero a, div-one v, append-nil)
 hex-add a (suc b) v =
     rw (add-suc a b, hex-add a b (v / 16), div-div-eq-div-mul v 16 (16 ^ b), pow-suc 16 b, mul-comm 16 (16 ^ b), append-assoc)
+
+pub hex-length : (k v : ℕ) → length (hex k v) ≡ k
+unfolding hex
+hex-length zero v = refl
+hex-length (suc k) v = rw (length-append (hex k (v / 16)) (digit (v % 16) ∷ []), hex-length k (v / 16)) (omega arith)
 
 -- decimal digits, by how many there are
 
@@ -69,11 +74,6 @@ pairs-more n h k =
     )
 
 -- how many digits there are
-pub hex-length : (k v : ℕ) → length (hex k v) ≡ k
-unfolding hex
-hex-length zero v = refl
-hex-length (suc k) v = rw (length-append (hex k (v / 16)) (digit (v % 16) ∷ []), hex-length k (v / 16)) (omega arith)
-
 pub pair-more-length : (n : ℕ) → 100 ≤ n → n < 10000 → length (decimal n) ≡ length (decimal (n / 100)) + 2
 pair-more-length n h k = rw (pair-more n h k, length-append (decimal (n / 100)))
 

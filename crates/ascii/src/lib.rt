@@ -50,20 +50,16 @@ fn digit(d: u32) -> u8
     (87 + d) as u8
 }
 
-fn put_hex2(out: &mut [u8], at: usize, v: u32) -> usize
-    requires { ⌜ at + 2 ≤ length (now out) ⌝ }
-    ensures { λ r. ⌜ Put (now (out .entry)) at (hex 2 v) (now (out .exit)) r ⌝ }
+// The eight digits of v as the bytes of a number, the first the lowest.
+fn hex_digits(v: u32) -> u64
+    ensures { λ r. ⌜ bytes 8 r ≡ hex 8 v ⌝ }
 {
-    let at = put_byte(out, at, digit(v / 16 % 16));
-    put_byte(out, at, digit(v % 16))
-}
-
-fn put_hex4(out: &mut [u8], at: usize, v: u32) -> usize
-    requires { ⌜ at + 4 ≤ length (now out) ⌝ }
-    ensures { λ r. ⌜ Put (now (out .entry)) at (hex 4 v) (now (out .exit)) r ⌝ }
-{
-    let at = put_hex2(out, at, v / 0x100);
-    put_hex2(out, at, v)
+    let v = v as u64;
+    // Each byte in a lane of 16 bits, each half of it in one of 8, and 39 more for a letter.
+    let low = v % 0x100 * 0x1_0000 + v / 0x100 % 0x100;
+    let b = (low * 0x1_0000 + v / 0x1_0000 % 0x100) * 0x1_0000 + v / 0x100_0000;
+    let c = (b / 16 & 0x000F_000F_000F_000F) + (b & 0x000F_000F_000F_000F) * 0x100;
+    c + 0x3030_3030_3030_3030 + ((c + 0x0606_0606_0606_0606) / 16 & 0x0101_0101_0101_0101) * 39
 }
 
 // A word in eight digits.
@@ -71,8 +67,7 @@ pub fn put_hex8(out: &mut [u8], at: usize, v: u32) -> usize
     requires { ⌜ at + 8 ≤ length (now out) ⌝ }
     ensures { λ r. ⌜ Put (now (out .entry)) at (hex 8 v) (now (out .exit)) r ⌝ }
 {
-    let at = put_hex4(out, at, v / 0x1_0000);
-    put_hex4(out, at, v)
+    put64(out, at, hex_digits(v))
 }
 
 // Two decimal digits.

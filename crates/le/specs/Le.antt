@@ -1,7 +1,7 @@
 -- Numbers as bytes, the lowest first, and their place in a list of bytes.
 use mathlib.Core.List.{List, [], _∷_, _++_}
 use Prim.Native.Nat.{ℕ, zero, suc, _+_, _*_, _/_, _%_, _<_}
-use lib.ListN.{take, drop, getD}
+use lib.ListN.{length, take, drop, getD}
 
 -- every element is a byte
 unfoldable pub Bytes : List ℕ → Type 0
@@ -33,6 +33,10 @@ unfoldable pub numbers : ℕ → ℕ → List ℕ → List ℕ
 unfolding number
 numbers k zero m = []
 numbers k (suc n) m = number (take k m) ∷ numbers k n (drop k m)
+
+-- the words of a block's bytes
+abbrev pub words : List ℕ → List ℕ
+words block = numbers 4 (length block / 4) block
 
 -- the bytes of each number
 unfoldable pub all-bytes : ℕ → List ℕ → List ℕ

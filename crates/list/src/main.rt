@@ -7,9 +7,6 @@ use rules::refusals;
 // How many bytes a block can have here.
 const MOST: usize = 65536;
 
-// How many bytes a line can have.
-const LINE: usize = 45;
-
 // The number; beside 13 the offset too, as in a line.
 fn print_refusal(answer: Listed) {
     io::write_all(STDOUT_FILENO, b"refused ");
@@ -41,6 +38,6 @@ fn main() {
         io::write_all(STDOUT_FILENO, b"long input\n");
         return;
     }
-    let mut output = [0u8; MOST / 4 * LINE];
+    let mut output = [0u8; MOST / 4 * rules::LONGEST_LINE];
     print_listing(&input[..n], &mut output);
 }

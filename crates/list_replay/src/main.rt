@@ -20,19 +20,23 @@ fn answer_of(refusal: u64, length: u64, offset: u64) -> Listed {
     }
 }
 
-// Lists into as many bytes as `expected` has, and compares the answer and each of them.
+// Whether List gives this answer, and leaves the expected bytes.
+fn lists(block: &[u8], answer: Listed, output: &mut [u8], expected: &[u8]) -> bool {
+    let found = listing::list(block, output);
+    found.refusal == answer.refusal
+        && found.length == answer.length
+        && found.offset == answer.offset
+        && check::same(output, expected)
+}
+
+// The output has as many bytes as are expected.
 fn agrees(block: &[u8], answer: Listed, expected: &[u8]) -> bool {
     let room = expected.len();
     if room > ROOM {
         return false;
     }
     let mut output = [FILL; ROOM];
-    let output = &mut output[..room];
-    let found = listing::list(block, output);
-    found.refusal == answer.refusal
-        && found.length == answer.length
-        && found.offset == answer.offset
-        && check::same(output, expected)
+    lists(block, answer, &mut output[..room], expected)
 }
 
 // One byte less than the lines have.

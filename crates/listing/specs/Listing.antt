@@ -1,12 +1,12 @@
 -- The operation List (document 02, No. 1): a block's words, one line each.
-use Prim.Native.Nat.{ℕ, _+_, _*_, _/_, _%_, _^_, _<_}
+use Prim.Native.Nat.{ℕ, _+_, _%_, _^_, _<_}
 use mathlib.Core.Path.{_≡_}
 use mathlib.Core.Bool.{Bool, true, false, cond, not, _||_}
 use mathlib.Core.List.{List, [], _∷_, _++_}
 use lib.Dec.{eqb, ltb}
 use lib.ListN.{length, drop}
 use Rattle.rules.specs.Refusals as Refusals
-use Rattle.le.specs.Le.{numbers, load}
+use Rattle.le.specs.Le.{words, load}
 use Rattle.a64.specs.declared.Form.{Form}
 use Rattle.a64.specs.declared.Form.the-variants.{DataProcessing, Ldr, Str, Movz, Movk, Cmp, Csel, Sxtw, AddSp, SubSp, Blr, Ret, Unreadable}
 use Rattle.a64.specs.Forms.{encode, decode}
@@ -26,9 +26,8 @@ unfolding decode
 lines at [] = []
 lines at (w ∷ ws) = record { offset = at; word = w; form = decode w } ∷ lines (at + 4) ws
 
--- the words of a block's bytes
 abbrev pub block-lines : List ℕ → List Line
-block-lines block = lines 0 (numbers 4 (length block / 4) block)
+block-lines block = lines 0 (words block)
 
 -- a line's bytes: offset and word in hexadecimal, the text, a line feed
 unfoldable pub line : Line → List ℕ

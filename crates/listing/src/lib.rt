@@ -1,8 +1,12 @@
 // Operation List: a block's words, one line each.
 ghost use mathlib.Core.Path.{_≡_};
-ghost use Prim.Native.Nat.{_+_, _≤_, _<_};
+ghost use mathlib.Core.Bool.{false};
+ghost use Prim.Native.Nat.{_+_, _%_, _≤_};
+ghost use lib.Dec.{ltb};
 ghost use lib.ListN.{length};
+ghost use Rattle.ascii.specs.Parts.{Put};
 ghost use Rattle.listing.specs.Listing as L;
+ghost use Rattle.listing.specs.Parts.{line-of, Scanned, Listable};
 use a64::Form;
 use a64_text::text;
 use rules::refusals;
@@ -14,34 +18,43 @@ pub struct Listed {
     pub offset: u64,
 }
 
-// What the words come to.
-enum Measured {
-    Bytes(u64),
-    Outside(usize),
-}
-
-fn line_length(f: Form) -> u64 {
-    (19 + text::text_length(f)) as u64
-}
-
-// How many bytes the lines have, or where a word is outside the forms.
-fn measure(block: &[u8]) -> Measured {
+// The byte offset of the first word that is outside the forms, or the block's length.
+fn first_outside(block: &[u8]) -> usize
+    requires { ⌜ length (now block) % 4 ≡ 0 ⌝ }
+    ensures { λ r. ⌜ Scanned (now (block .entry)) r ⌝ }
+{
     let count = block.len() / 4;
-    let mut total: u64 = 0;
     let mut i = 0;
     while i < count {
         let f = a64::decode(le::load32(block, 4 * i));
         if let Form::Unreadable = f {
-            return Measured::Outside(4 * i);
+            return 4 * i;
         }
-        total += line_length(f);
         i += 1;
     }
-    Measured::Bytes(total)
+    4 * i
+}
+
+// How many bytes the lines have.
+fn listing_length(block: &[u8]) -> usize
+    requires { ⌜ Listable (now block) ⌝ }
+    ensures { λ r. ⌜ r ≡ length (L.listing (L.block-lines (now (block .entry)))) ⌝ }
+{
+    let count = block.len() / 4;
+    let mut total = 0;
+    let mut i = 0;
+    while i < count {
+        total += 19 + text::text_length(a64::decode(le::load32(block, 4 * i)));
+        i += 1;
+    }
+    total
 }
 
 // Offset and word in hexadecimal, the text, a line feed.
-fn put_line(out: &mut [u8], at: usize, offset: u32, w: u32) -> usize {
+fn put_line(out: &mut [u8], at: usize, offset: u32, w: u32) -> usize
+    requires { ⌜ (at + length (L.line (line-of offset w)) ≤ length (now out)) × (L.is-outside (line-of offset w .form) ≡ false) ⌝ }
+    ensures { λ r. ⌜ Put (now (out .entry)) at (L.line (line-of offset w)) (now (out .exit)) r ⌝ }
+{
     let at = ascii::put_hex8(out, at, offset);
     let at = ascii::put_byte(out, at, b' ');
     let at = ascii::put_hex8(out, at, w);
@@ -50,7 +63,11 @@ fn put_line(out: &mut [u8], at: usize, offset: u32, w: u32) -> usize {
     ascii::put_byte(out, at, b'\n')
 }
 
-fn put_lines(block: &[u8], out: &mut [u8]) {
+// The lines at the front, and how many bytes they have.
+fn put_lines(block: &[u8], out: &mut [u8]) -> usize
+    requires { ⌜ (length (L.listing (L.block-lines (now block))) ≤ length (now out)) × Listable (now block) ⌝ }
+    ensures { λ r. ⌜ Put (now (out .entry)) 0 (L.listing (L.block-lines (now (block .entry)))) (now (out .exit)) r ⌝ }
+{
     let count = block.len() / 4;
     let mut at = 0;
     let mut i = 0;
@@ -59,9 +76,23 @@ fn put_lines(block: &[u8], out: &mut [u8]) {
         at = put_line(out, at, offset as u32, le::load32(block, offset));
         i += 1;
     }
+    at
 }
 
-fn refuse(n: u32, offset: usize) -> Listed {
+// Whether `room` bytes are too few for the lines. Where each may be the longest, they need not be measured.
+fn too_short(block: &[u8], room: usize) -> bool
+    requires { ⌜ Listable (now block) ⌝ }
+    ensures { λ r. ⌜ r ≡ ltb room (length (L.listing (L.block-lines (now (block .entry))))) ⌝ }
+{
+    if block.len() / 4 <= room / rules::LONGEST_LINE {
+        return false;
+    }
+    room < listing_length(block)
+}
+
+fn refuse(n: u32, offset: usize) -> Listed
+    ensures { λ r. ⌜ r ≡ record { refusal = n; length = 0; offset = offset } ⌝ }
+{
     Listed {
         refusal: n as u64,
         length: 0,
@@ -69,26 +100,28 @@ fn refuse(n: u32, offset: usize) -> Listed {
     }
 }
 
-pub fn list(block: &[u8], output: &mut [u8]) -> Listed {
+// List (document 02, No. 1): the words of `block`, one line each, at the front of `output`.
+pub fn list(block: &[u8], output: &mut [u8]) -> Listed
+    ensures { λ r. ⌜ L.Lists (now (block .entry)) (now (output .entry)) r (now (output .exit)) ⌝ }
+{
     if block.len() % 4 != 0 {
         return refuse(refusals::LISTING_LENGTH, 0);
     }
     if block.len() > 0x1_0000_0000 {
         return refuse(refusals::LISTING_LENGTH, 0);
     }
-    let measured = measure(block);
-    match measured {
-        Measured::Outside(at) => refuse(refusals::OUTSIDE_FORMS, at),
-        Measured::Bytes(length) => {
-            if (output.len() as u64) < length {
-                return refuse(refusals::LISTING_SHORT, 0);
-            }
-            put_lines(block, output);
-            Listed {
-                refusal: 0,
-                length,
-                offset: 0,
-            }
-        }
+    let outside = first_outside(block);
+    if outside < block.len() {
+        return refuse(refusals::OUTSIDE_FORMS, outside);
+    }
+    let short = too_short(block, output.len());
+    if short {
+        return refuse(refusals::LISTING_SHORT, 0);
+    }
+    let length = put_lines(block, output);
+    Listed {
+        refusal: 0,
+        length: length as u64,
+        offset: 0,
     }
 }

@@ -26,3 +26,7 @@ max-words = max-instrs * inline-words + end-words
 -- refusal 1: the greatest slot offset. Slot 31 is then at the greatest offset of LDR and STR, 4,095 times 8
 abbrev pub max-slot-offset : ℕ
 max-slot-offset = 8 * (4095 - 31)
+
+-- the most bytes of a line of a listing: `subs xzr, x30, x30, lsl #0` behind two numbers of eight digits
+abbrev pub longest-line : ℕ
+longest-line = 45

@@ -19,3 +19,6 @@ pub const MAX_WORDS: usize = MAX_INSTRS as usize * INLINE_WORDS + END_WORDS;
 
 // The greatest slot offset (refusal 1): slot 31 is then at the greatest offset of LDR and STR.
 pub const MAX_SLOT_OFFSET: u64 = 8 * (4095 - 31);
+
+// The most bytes of a line of a listing.
+pub const LONGEST_LINE: usize = 45;

@@ -4,7 +4,8 @@ use native.Mathlib.Numerals.{add-one}
 use Prim.Native.Nat.{_-_}
 use lib.ListN.{length}
 use Rattle.a64_exec.specs.Exec.{machine}
-use Rattle.a64_run.specs.Run.{words, run, onward}
+use Rattle.le.specs.Le.{words}
+use Rattle.a64_run.specs.Run.{run, onward}
 use Rattle.a64_run.proofs.RunLaws.{Running, start, off-end, spent, ended, onto}
 use Rattle.a64_run.proofs.run.run_words.Statement.{statement}
 use Rattle.a64_run.proofs.run.run_words.Tie as tie

@@ -1,0 +1,119 @@
+-- The lines of a block one after the other. Assumes nothing.
+use mathlib.Core.Path.{_≡_, refl, sym, ap, _∙_}
+use mathlib.Core.Bool.{Bool, true, false, _||_}
+use mathlib.Core.List.{List, [], _∷_, _++_}
+use Prim.Native.Nat.{ℕ, suc, _+_, _*_, _/_, _≤_, _<_}
+use native.Mathlib.Nat.{mul-suc}
+use native.Mathlib.Numerals.{add-one}
+use native.Mathlib.Omega.{arith}
+use lib.ListN.{length, length-append}
+use types.Run.{OneOf, miss}
+use denote.Enum.Declared.{tagOf}
+use Rattle.le.specs.Le.{load}
+use Rattle.le.proofs.Lists.{numbers-at, numbers-over}
+use Rattle.ascii.specs.Parts.{over, Put}
+use Rattle.ascii.proofs.Writing.{over-append}
+use Rattle.ascii.proofs.Numbers.{hex-length}
+use Rattle.a64.specs.declared.Form.{Form}
+use Rattle.a64.specs.declared.Form.the-variants.{DataProcessing, Ldr, Str, Movz, Movk, Cmp, Csel, Sxtw, AddSp, SubSp, Blr, Ret, Unreadable}
+use Rattle.a64.proofs.Form as Forms
+use Rattle.a64.specs.Forms.{decode}
+use Rattle.a64.proofs.Coding.{decode-in-range, encode-decode}
+use Rattle.a64_text.specs.Text.{syntax, text}
+use Rattle.a64_text.specs.Parts as Text
+use Rattle.listing.specs.Listing.{Line, lines, line, listing, is-outside, any-outside, Rewritten}
+use Rattle.listing.specs.Parts.{lines-from, line-of}
+
+-- ---- forms
+
+-- what is known where an `if let` was not taken
+pub among : (f : Form) → OneOf (0 ∷ 1 ∷ 2 ∷ 3 ∷ 4 ∷ 5 ∷ 6 ∷ 7 ∷ 8 ∷ 9 ∷ 10 ∷ 11 ∷ []) (tagOf Forms.the-type f) → is-outside f ≡ false
+among (DataProcessing op rd rn rm) h = refl
+among (Ldr rt rn imm) h = refl
+among (Str rt rn imm) h = refl
+among (Movz rd hw imm) h = refl
+among (Movk rd hw imm) h = refl
+among (Cmp rn rm) h = refl
+among (Csel rd rn rm c) h = refl
+among (Sxtw rd rn) h = refl
+among (AddSp imm) h = refl
+among (SubSp imm) h = refl
+among (Blr rn) h = refl
+among Ret h = refl
+among Unreadable h = absurd (miss (0 ∷ 1 ∷ 2 ∷ 3 ∷ 4 ∷ 5 ∷ 6 ∷ 7 ∷ 8 ∷ 9 ∷ 10 ∷ 11 ∷ []) 12 tt h)
+
+pub readable : (w : ℕ) → is-outside (decode w) ≡ false → Text.Listable (decode w)
+readable w h =
+    record {
+      fits = decode-in-range w;
+      form = λ e. let t : is-outside (decode w) ≡ true = ap is-outside e in let z : _≡_ {A = ℕ} 0 1 = cc in omega arith;
+    }
+
+pub both-false : (a b : Bool) → a || b ≡ false → (a ≡ false) × (b ≡ false)
+both-false true b h = let z : _≡_ {A = ℕ} 0 1 = cc in absurd (omega arith)
+both-false false b h = (refl, h)
+
+-- ---- a line
+
+pub line-length : (l : Line) → length (line l) ≡ 19 + length (text (syntax (l .form)))
+unfolding line
+line-length l = simp (length-append, hex-length) (omega arith)
+
+-- ---- the first line, and the others
+
+module _ (block : List ℕ) where
+  -- the line of word i
+  abbrev pub here : ℕ → Line
+  here i = line-of (4 * i) (load 4 block (4 * i))
+
+  pub next : (i : ℕ) → i < length block / 4 → lines-from block i ≡ here i ∷ lines-from block (i + 1)
+  unfolding lines
+  next i h =
+      let e : 4 * suc i ≡ 4 * i + 4 = mul-suc 4 i in
+      rw (numbers-at 4 (length block / 4) block i h, add-one, e)
+
+  pub ended : (i : ℕ) → length block / 4 ≤ i → lines-from block i ≡ []
+  unfolding lines
+  ended i h = rw (numbers-over 4 (length block / 4) block i h)
+
+  pub next-outside : (i : ℕ) → i < length block / 4
+      → any-outside (lines-from block i) ≡ is-outside (decode (load 4 block (4 * i))) || any-outside (lines-from block (i + 1))
+  unfolding any-outside
+  next-outside i h = rw (next i h)
+
+  -- no word from i on is outside: this one, and those after it
+  pub inside : (i : ℕ) → i < length block / 4 → any-outside (lines-from block i) ≡ false
+      → (is-outside (decode (load 4 block (4 * i))) ≡ false) × (any-outside (lines-from block (i + 1)) ≡ false)
+  inside i h e = both-false _ _ (sym (next-outside i h) ∙ e)
+
+  pub next-listing : (i : ℕ) → i < length block / 4 → listing (lines-from block i) ≡ line (here i) ++ listing (lines-from block (i + 1))
+  unfolding listing
+  next-listing i h = rw (next i h)
+
+  pub next-length : (i : ℕ) → i < length block / 4
+      → length (listing (lines-from block i)) ≡ length (line (here i)) + length (listing (lines-from block (i + 1)))
+  next-length i h = rw (next-listing i h) (length-append (line (here i)) (listing (lines-from block (i + 1))))
+
+  pub ended-listing : (i : ℕ) → length block / 4 ≤ i → listing (lines-from block i) ≡ []
+  unfolding listing
+  ended-listing i h = rw (ended i h)
+
+  pub ended-outside : (i : ℕ) → length block / 4 ≤ i → any-outside (lines-from block i) ≡ false
+  unfolding any-outside
+  ended-outside i h = rw (ended i h)
+
+  -- what is left to write, after one line more
+  pub over-next : {m m′ : List ℕ} {at r : ℕ} (i : ℕ) → i < length block / 4 → Put m at (line (here i)) m′ r
+      → over m′ r (listing (lines-from block (i + 1))) ≡ over m at (listing (lines-from block i))
+  over-next {m} {m′} {at} {r} i h p =
+      rw (next-listing i h, p .written, p .next)
+      (over-append m at (line (here i)) (listing (lines-from block (i + 1))) (omega (arith, p .room)))
+
+-- ---- the fields, written again
+
+pub rewritten : (at : ℕ) (ws : List ℕ) → any-outside (lines at ws) ≡ false → Rewritten (lines at ws)
+unfolding lines any-outside
+rewritten at [] h = tt
+rewritten at (w ∷ ws) h =
+    let b = both-false (is-outside (decode w)) (any-outside (lines (at + 4) ws)) h in
+    (encode-decode w (readable w (b .0) .form), rewritten (at + 4) ws (b .1))

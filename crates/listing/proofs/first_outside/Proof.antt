@@ -1,0 +1,70 @@
+use borrow.Author.Needs.{needs}
+use native.Mathlib.Omega.{arith}
+use Prim.Native.Nat.{_≤_, _-_, _/_, _*_}
+use mathlib.Core.Path.{_≡_, refl, sym, ap, _∙_}
+use mathlib.Core.Bool.{false}
+use lib.ListN.{length}
+use borrow.Author.Tests.{lt-ltb, le-ltb}
+use Rattle.le.specs.Le.{load}
+use Rattle.a64.specs.declared.Form.the-variants.{Unreadable}
+use Rattle.a64.specs.Forms.{decode}
+use Rattle.listing.specs.Listing.{block-lines, is-outside, any-outside}
+use Rattle.listing.specs.Parts.{lines-from}
+use Rattle.listing.proofs.Lines.{among, next-outside, ended-outside}
+use Rattle.listing.proofs.first_outside.Statement.{statement}
+use Rattle.listing.proofs.first_outside.Tie as tie
+
+abbrev Inv-loop : tie.InvT-loop
+Inv-loop block count i₀ i = (count ≡ length block / 4) × (i ≤ count) × (any-outside (block-lines block) ≡ any-outside (lines-from block i))
+
+abbrev μ-loop : tie.MeasureT-loop
+μ-loop block count i₀ i = count - i
+
+loop-holds : tie.Need-loop-holds Inv-loop μ-loop
+loop-holds c = (refl, omega arith, refl)
+
+returns : tie.Need-returns Inv-loop μ-loop
+returns c =
+    let b = c .before .before .before .before .before .before .before .args .block .now in
+    let l = c .before .before .before .before .before .loop in
+    let e : decode (load 4 b (4 * l .i)) ≡ Unreadable = ap decode (sym (c .before .before .before .load32 .ensures)) ∙ sym (c .before .before .decode .ensures) ∙ c .enum-told .given .1 in
+    record {
+      found = l .inv .2 ∙ next-outside b (l .i) (omega arith) ∙ rw (e, lt-ltb (4 * l .i) (length b) (omega arith));
+      outside = λ h. record { multiple = omega arith; inside = omega arith; outside = e };
+    }
+
+loop-again : tie.Need-loop-again Inv-loop μ-loop
+loop-again c =
+    let b = c .before .before .before .before .before .before .args .block .now in
+    let l = c .before .before .before .before .loop in
+    let q = c .before .decode .ensures ∙ ap decode (c .before .before .load32 .ensures) in
+    let k : is-outside (decode (load 4 b (4 * l .i))) ≡ false = ap is-outside (sym q) ∙ among (c .before .decode .result) (c .match .keys2) in
+    (refl, omega arith, l .inv .2 ∙ next-outside b (l .i) (omega arith) ∙ rw k)
+
+returns-2 : tie.Need-returns-2 Inv-loop μ-loop
+returns-2 c =
+    let b = c .before .before .before .args .block .now in
+    let l = c .before .loop in
+    record {
+      found = l .inv .2 ∙ ended-outside b (l .i) (omega arith) ∙ sym (le-ltb (4 * l .i) (length b) (omega arith));
+      outside = λ h. absurd (omega arith);
+    }
+
+pub first-outside-spec : {M : Type 1} → statement M
+first-outside-spec =
+    tie.close
+    (tie.spec
+    Inv-loop
+    μ-loop
+    loop-holds
+    (λ c. search needs)
+    (λ c κs. search needs)
+    (λ c κs. search needs)
+    (λ c. search needs)
+    (λ c. search needs)
+    returns
+    (λ c. search needs)
+    (λ c. search needs)
+    loop-again
+    (λ c. search needs)
+    returns-2)
