@@ -6,7 +6,7 @@ use lib.Dec.{eqb, ltb}
 use lib.ListN.{length}
 use Rattle.rules.specs.Refusals as Refusals
 use Rattle.word.specs.Word.{wrap}
-use Rattle.le.specs.Le.{words}
+pub use Rattle.le.specs.Le.{words}
 use Rattle.a64.specs.Forms.{decode}
 use Rattle.a64_exec.specs.declared.state.A64State.{A64State}
 use Rattle.a64_exec.specs.declared.exec.Outcome.{Outcome}

@@ -17,6 +17,8 @@ use Rattle.hilofanur.specs.declared.TranslateAnswer.{TranslateAnswer}
 use Rattle.hilofanur.specs.declared.PlaceAnswer.{PlaceAnswer}
 use Rattle.hilofanur.specs.declared.A64RunAnswer.{A64RunAnswer}
 use Rattle.hilofanur.specs.declared.Rv64RunAnswer.{Rv64RunAnswer}
+use Rattle.hilofanur.specs.declared.ListAnswer.{ListAnswer}
+use Rattle.listing.specs.declared.Listed.{Listed}
 
 -- ---- Translate: the answer, and the output's bytes
 
@@ -108,3 +110,8 @@ rv64-of registers a =
 
 abbrev pub rv64-run : List ℕ → ℕ → ℕ → Bool → List ℕ → Rv64Result
 rv64-run guest pc limit e registers = rv64-of registers (answer guest (rv64-hart registers pc) limit e)
+
+-- ---- List: the answer by the names of the operation
+
+abbrev pub listed : ListAnswer → Listed
+listed a = record { refusal = a .refusal; length = a .length; offset = a .offset }

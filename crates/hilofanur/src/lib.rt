@@ -2,6 +2,7 @@
 ghost use mathlib.Core.Path.{_≡_};
 ghost use lib.ListN.{take};
 ghost use Rattle.translation.specs.Demand3.{Demand3};
+ghost use Rattle.listing.specs.Listing.{Lists};
 ghost use Rattle.hilofanur.specs.Answers as Answers;
 
 mod a64_state;
@@ -40,6 +41,14 @@ pub struct Rv64RunAnswer {
     pub refusal: u32,
     pub count: u32,
     pub next_pc: u64,
+}
+
+// The refusal, 0 where the lines were written; how many bytes they have; beside refusal 13 the offset of a word outside the forms.
+#[repr(C)]
+pub struct ListAnswer {
+    pub refusal: u64,
+    pub length: u64,
+    pub offset: u64,
 }
 
 #[no_mangle]
@@ -144,5 +153,17 @@ pub extern "C" fn hilofanur_rv64_run(
         refusal: refusal,
         count: answer.count,
         next_pc: after.pc,
+    }
+}
+
+#[no_mangle]
+pub extern "C" fn hilofanur_list(block: &[u8], output: &mut [u8]) -> ListAnswer
+    ensures { λ r. ⌜ Lists (now (block .entry)) (now (output .entry)) (Answers.listed r) (now (output .exit)) ⌝ }
+{
+    let a = listing::list(block, output);
+    ListAnswer {
+        refusal: a.refusal,
+        length: a.length,
+        offset: a.offset,
     }
 }
