@@ -1,14 +1,12 @@
 -- The lines of a block one after the other. Assumes nothing.
 use mathlib.Core.Path.{_≡_, refl, sym, ap, _∙_}
-use mathlib.Core.Bool.{Bool, true, false, _||_}
+use mathlib.Core.Bool.{Bool, true, false, cond, _||_}
 use mathlib.Core.List.{List, [], _∷_, _++_}
 use Prim.Native.Nat.{ℕ, suc, _+_, _*_, _/_, _≤_, _<_}
 use native.Mathlib.Nat.{mul-suc}
 use native.Mathlib.Numerals.{add-one}
 use native.Mathlib.Omega.{arith}
 use lib.ListN.{length, length-append}
-use types.Run.{OneOf, miss}
-use denote.Enum.Declared.{tagOf}
 use Rattle.le.specs.Le.{load}
 use Rattle.le.proofs.Lists.{numbers-at, numbers-over}
 use Rattle.ascii.specs.Parts.{over, Put}
@@ -16,7 +14,6 @@ use Rattle.ascii.proofs.Writing.{over-append}
 use Rattle.ascii.proofs.Numbers.{hex-length}
 use Rattle.a64.specs.declared.Form.{Form}
 use Rattle.a64.specs.declared.Form.the-variants.{DataProcessing, Ldr, Str, Movz, Movk, Cmp, Csel, Sxtw, AddSp, SubSp, Blr, Ret, Unreadable}
-use Rattle.a64.proofs.Form as Forms
 use Rattle.a64.specs.Forms.{decode}
 use Rattle.a64.proofs.Coding.{decode-in-range, encode-decode}
 use Rattle.a64_text.specs.Text.{syntax, text}
@@ -26,31 +23,38 @@ use Rattle.listing.specs.Parts.{lines-from, line-of}
 
 -- ---- forms
 
--- what is known where an `if let` was not taken
-pub among : (f : Form) → OneOf (0 ∷ 1 ∷ 2 ∷ 3 ∷ 4 ∷ 5 ∷ 6 ∷ 7 ∷ 8 ∷ 9 ∷ 10 ∷ 11 ∷ []) (tagOf Forms.the-type f) → is-outside f ≡ false
-among (DataProcessing op rd rn rm) h = refl
-among (Ldr rt rn imm) h = refl
-among (Str rt rn imm) h = refl
-among (Movz rd hw imm) h = refl
-among (Movk rd hw imm) h = refl
-among (Cmp rn rm) h = refl
-among (Csel rd rn rm c) h = refl
-among (Sxtw rd rn) h = refl
-among (AddSp imm) h = refl
-among (SubSp imm) h = refl
-among (Blr rn) h = refl
-among Ret h = refl
-among Unreadable h = absurd (miss (0 ∷ 1 ∷ 2 ∷ 3 ∷ 4 ∷ 5 ∷ 6 ∷ 7 ∷ 8 ∷ 9 ∷ 10 ∷ 11 ∷ []) 12 tt h)
+apart : false ≡ true → ⊥
+apart h = let z : _≡_ {A = ℕ} 0 1 = cc in omega arith
+
+-- of a form that a test chooses
+pub outside-cond : (b : Bool) (f g : Form) → is-outside (cond b f g) ≡ cond b (is-outside f) (is-outside g)
+outside-cond true f g = refl
+outside-cond false f g = refl
+
+pub unreadable : (f : Form) → is-outside f ≡ true → f ≡ Unreadable
+unreadable (DataProcessing op rd rn rm) h = absurd (apart h)
+unreadable (Ldr rt rn imm) h = absurd (apart h)
+unreadable (Str rt rn imm) h = absurd (apart h)
+unreadable (Movz rd hw imm) h = absurd (apart h)
+unreadable (Movk rd hw imm) h = absurd (apart h)
+unreadable (Cmp rn rm) h = absurd (apart h)
+unreadable (Csel rd rn rm c) h = absurd (apart h)
+unreadable (Sxtw rd rn) h = absurd (apart h)
+unreadable (AddSp imm) h = absurd (apart h)
+unreadable (SubSp imm) h = absurd (apart h)
+unreadable (Blr rn) h = absurd (apart h)
+unreadable Ret h = absurd (apart h)
+unreadable Unreadable h = refl
 
 pub readable : (w : ℕ) → is-outside (decode w) ≡ false → Text.Listable (decode w)
 readable w h =
     record {
       fits = decode-in-range w;
-      form = λ e. let t : is-outside (decode w) ≡ true = ap is-outside e in let z : _≡_ {A = ℕ} 0 1 = cc in omega arith;
+      form = λ e. apart (sym h ∙ ap is-outside e);
     }
 
 pub both-false : (a b : Bool) → a || b ≡ false → (a ≡ false) × (b ≡ false)
-both-false true b h = let z : _≡_ {A = ℕ} 0 1 = cc in absurd (omega arith)
+both-false true b h = absurd (apart (sym h))
 both-false false b h = (refl, h)
 
 -- ---- a line

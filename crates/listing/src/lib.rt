@@ -7,7 +7,9 @@ ghost use lib.ListN.{length};
 ghost use Rattle.ascii.specs.Parts.{Put};
 ghost use Rattle.listing.specs.Listing as L;
 ghost use Rattle.listing.specs.Parts.{line-of, Scanned, Listable};
-use a64::Form;
+
+mod forms;
+
 use a64_text::text;
 use rules::refusals;
 
@@ -26,8 +28,8 @@ fn first_outside(block: &[u8]) -> usize
     let count = block.len() / 4;
     let mut i = 0;
     while i < count {
-        let f = a64::decode(le::load32(block, 4 * i));
-        if let Form::Unreadable = f {
+        let outside = forms::is_outside(le::load32(block, 4 * i));
+        if outside {
             return 4 * i;
         }
         i += 1;

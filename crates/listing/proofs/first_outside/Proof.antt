@@ -2,15 +2,14 @@ use borrow.Author.Needs.{needs}
 use native.Mathlib.Omega.{arith}
 use Prim.Native.Nat.{_≤_, _-_, _/_, _*_}
 use mathlib.Core.Path.{_≡_, refl, sym, ap, _∙_}
-use mathlib.Core.Bool.{false}
+use mathlib.Core.Bool.{Bool, true, false}
 use lib.ListN.{length}
 use borrow.Author.Tests.{lt-ltb, le-ltb}
 use Rattle.le.specs.Le.{load}
-use Rattle.a64.specs.declared.Form.the-variants.{Unreadable}
 use Rattle.a64.specs.Forms.{decode}
 use Rattle.listing.specs.Listing.{block-lines, is-outside, any-outside}
 use Rattle.listing.specs.Parts.{lines-from}
-use Rattle.listing.proofs.Lines.{among, next-outside, ended-outside}
+use Rattle.listing.proofs.Lines.{unreadable, next-outside, ended-outside}
 use Rattle.listing.proofs.first_outside.Statement.{statement}
 use Rattle.listing.proofs.first_outside.Tie as tie
 
@@ -25,20 +24,20 @@ loop-holds c = (refl, omega arith, refl)
 
 returns : tie.Need-returns Inv-loop μ-loop
 returns c =
-    let b = c .before .before .before .before .before .before .before .args .block .now in
-    let l = c .before .before .before .before .before .loop in
-    let e : decode (load 4 b (4 * l .i)) ≡ Unreadable = ap decode (sym (c .before .before .before .load32 .ensures)) ∙ sym (c .before .before .decode .ensures) ∙ c .enum-told .given .1 in
+    let b = c .before .before .before .before .before .before .args .block .now in
+    let l = c .before .before .before .before .loop in
+    let w = load 4 b (4 * l .i) in
+    let e : is-outside (decode w) ≡ true = rw (c .before .before .load32 .ensures) at (sym (c .before .is-outside .ensures) ∙ c .if1 .taken) in
     record {
       found = l .inv .2 ∙ next-outside b (l .i) (omega arith) ∙ rw (e, lt-ltb (4 * l .i) (length b) (omega arith));
-      outside = λ h. record { multiple = omega arith; inside = omega arith; outside = e };
+      outside = λ h. record { multiple = omega arith; inside = omega arith; outside = unreadable (decode w) e };
     }
 
 loop-again : tie.Need-loop-again Inv-loop μ-loop
 loop-again c =
     let b = c .before .before .before .before .before .before .args .block .now in
     let l = c .before .before .before .before .loop in
-    let q = c .before .decode .ensures ∙ ap decode (c .before .before .load32 .ensures) in
-    let k : is-outside (decode (load 4 b (4 * l .i))) ≡ false = ap is-outside (sym q) ∙ among (c .before .decode .result) (c .match .keys2) in
+    let k : is-outside (decode (load 4 b (4 * l .i))) ≡ false = rw (c .before .before .load32 .ensures) at (sym (c .before .is-outside .ensures) ∙ c .if1 .left) in
     (refl, omega arith, l .inv .2 ∙ next-outside b (l .i) (omega arith) ∙ rw k)
 
 returns-2 : tie.Need-returns-2 Inv-loop μ-loop
@@ -60,7 +59,6 @@ first-outside-spec =
     (λ c. search needs)
     (λ c κs. search needs)
     (λ c κs. search needs)
-    (λ c. search needs)
     (λ c. search needs)
     returns
     (λ c. search needs)
