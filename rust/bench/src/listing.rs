@@ -1,4 +1,4 @@
-//! The listing beside two plain writers: one for speed, one by `write!`.
+//! The listing beside two plain writers: one of plain, exact pushes, one by `write!`.
 
 use crate::{row, SEED};
 use draw::guest::Guests;
