@@ -23,7 +23,7 @@ use Rattle.listing.specs.Parts.{lines-from, line-of}
 
 -- ---- forms
 
-apart : false ≡ true → ⊥
+pub apart : false ≡ true → ⊥
 apart h = let z : _≡_ {A = ℕ} 0 1 = cc in omega arith
 
 -- of a form that a test chooses
@@ -56,6 +56,17 @@ readable w h =
 pub both-false : (a b : Bool) → a || b ≡ false → (a ≡ false) × (b ≡ false)
 both-false true b h = absurd (apart (sym h))
 both-false false b h = (refl, h)
+
+-- one word more, and those that are left
+pub or-more : (a b c : Bool) → cond b true a || c ≡ a || (b || c)
+or-more true true c = refl
+or-more true false c = refl
+or-more false true c = refl
+or-more false false c = refl
+
+pub or-false : (a : Bool) → a || false ≡ a
+or-false true = refl
+or-false false = refl
 
 -- ---- a line
 

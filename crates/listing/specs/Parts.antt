@@ -1,13 +1,12 @@
 -- What the functions of this crate promise one another; no operation's contract reaches it.
-use Prim.Native.Nat.{ℕ, _*_, _^_, _≤_, _<_}
+use Prim.Native.Nat.{ℕ, _*_, _^_, _≤_}
 use mathlib.Core.Path.{_≡_}
 use mathlib.Core.Bool.{false}
 use mathlib.Core.List.{List}
-use lib.Dec.{ltb}
 use lib.ListN.{length, drop}
 use Rattle.le.specs.Le.{words}
 use Rattle.a64.specs.Forms.{decode}
-use Rattle.listing.specs.Listing.{Line, lines, block-lines, any-outside, Outside}
+use Rattle.listing.specs.Listing.{Line, lines, block-lines, any-outside}
 
 -- the lines from word i on
 abbrev pub lines-from : List ℕ → ℕ → List Line
@@ -15,11 +14,6 @@ lines-from block i = lines (4 * i) (drop i (words block))
 
 abbrev pub line-of : ℕ → ℕ → Line
 line-of at w = record { offset = at; word = w; form = decode w }
-
--- r is the offset of a word outside the forms, or the block's length where there is none
-pub record Scanned (block : List ℕ) (r : ℕ) : Type 0 where
-  pub found : any-outside (block-lines block) ≡ ltb r (length block)
-  pub outside : r < length block → Outside block r
 
 -- a block that is listed where the output is long enough
 pub record Listable (block : List ℕ) : Type 0 where

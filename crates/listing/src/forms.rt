@@ -4,7 +4,7 @@ ghost use mathlib.Core.Bool.{cond};
 ghost use Rattle.a64.specs.Forms.{decode, decode-op, decode-register, ops};
 ghost use Rattle.listing.specs.Listing.{is-outside};
 
-fn pick(test: bool, yes: bool, no: bool) -> bool
+pub fn pick(test: bool, yes: bool, no: bool) -> bool
     ensures { λ r. ⌜ r ≡ cond test yes no ⌝ }
 {
     if test { yes } else { no }

@@ -1,12 +1,12 @@
 // Operation List: a block's words, one line each.
 ghost use mathlib.Core.Path.{_≡_};
-ghost use mathlib.Core.Bool.{false};
-ghost use Prim.Native.Nat.{_+_, _%_, _≤_};
+ghost use mathlib.Core.Bool.{true, false};
+ghost use Prim.Native.Nat.{_+_, _≤_};
 ghost use lib.Dec.{ltb};
 ghost use lib.ListN.{length};
 ghost use Rattle.ascii.specs.Parts.{Put};
 ghost use Rattle.listing.specs.Listing as L;
-ghost use Rattle.listing.specs.Parts.{line-of, Scanned, Listable};
+ghost use Rattle.listing.specs.Parts.{line-of, Listable};
 
 mod forms;
 
@@ -20,10 +20,25 @@ pub struct Listed {
     pub offset: u64,
 }
 
-// The byte offset of the first word that is outside the forms, or the block's length.
+// Whether a word is outside the forms. Every word is asked, so that no branch waits for one.
+fn any_outside(block: &[u8]) -> bool
+    ensures { λ r. ⌜ r ≡ L.any-outside (L.block-lines (now (block .entry))) ⌝ }
+{
+    let count = block.len() / 4;
+    let mut any = false;
+    let mut i = 0;
+    while i < count {
+        let outside = forms::is_outside(le::load32(block, 4 * i));
+        any = forms::pick(outside, true, any);
+        i += 1;
+    }
+    any
+}
+
+// The byte offset of the first of them.
 fn first_outside(block: &[u8]) -> usize
-    requires { ⌜ length (now block) % 4 ≡ 0 ⌝ }
-    ensures { λ r. ⌜ Scanned (now (block .entry)) r ⌝ }
+    requires { ⌜ L.any-outside (L.block-lines (now block)) ≡ true ⌝ }
+    ensures { λ r. ⌜ L.Outside (now (block .entry)) r ⌝ }
 {
     let count = block.len() / 4;
     let mut i = 0;
@@ -112,9 +127,9 @@ pub fn list(block: &[u8], output: &mut [u8]) -> Listed
     if block.len() > 0x1_0000_0000 {
         return refuse(refusals::LISTING_LENGTH, 0);
     }
-    let outside = first_outside(block);
-    if outside < block.len() {
-        return refuse(refusals::OUTSIDE_FORMS, outside);
+    let outside = any_outside(block);
+    if outside {
+        return refuse(refusals::OUTSIDE_FORMS, first_outside(block));
     }
     let short = too_short(block, output.len());
     if short {

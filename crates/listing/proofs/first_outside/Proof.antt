@@ -1,53 +1,44 @@
 use borrow.Author.Needs.{needs}
 use native.Mathlib.Omega.{arith}
 use Prim.Native.Nat.{_≤_, _-_, _/_, _*_}
-use mathlib.Core.Path.{_≡_, refl, sym, ap, _∙_}
-use mathlib.Core.Bool.{Bool, true, false}
+use mathlib.Core.Path.{_≡_, refl, sym, _∙_}
+use mathlib.Core.Bool.{true, false}
 use lib.ListN.{length}
-use borrow.Author.Tests.{lt-ltb, le-ltb}
 use Rattle.le.specs.Le.{load}
 use Rattle.a64.specs.Forms.{decode}
 use Rattle.listing.specs.Listing.{block-lines, is-outside, any-outside}
 use Rattle.listing.specs.Parts.{lines-from}
-use Rattle.listing.proofs.Lines.{unreadable, next-outside, ended-outside}
+use Rattle.listing.proofs.Lines.{apart, unreadable, next-outside, ended-outside}
 use Rattle.listing.proofs.first_outside.Statement.{statement}
 use Rattle.listing.proofs.first_outside.Tie as tie
 
 abbrev Inv-loop : tie.InvT-loop
-Inv-loop block count i₀ i = (count ≡ length block / 4) × (i ≤ count) × (any-outside (block-lines block) ≡ any-outside (lines-from block i))
+Inv-loop block count i₀ i = (count ≡ length block / 4) × (i ≤ count) × (any-outside (lines-from block i) ≡ true)
 
 abbrev μ-loop : tie.MeasureT-loop
 μ-loop block count i₀ i = count - i
 
 loop-holds : tie.Need-loop-holds Inv-loop μ-loop
-loop-holds c = (refl, omega arith, refl)
+loop-holds c = (refl, omega arith, c .before .pre)
 
 returns : tie.Need-returns Inv-loop μ-loop
 returns c =
-    let b = c .before .before .before .before .before .before .args .block .now in
     let l = c .before .before .before .before .loop in
-    let w = load 4 b (4 * l .i) in
+    let w = load 4 (c .before .before .before .before .before .before .args .block .now) (4 * l .i) in
     let e : is-outside (decode w) ≡ true = rw (c .before .before .load32 .ensures) at (sym (c .before .is-outside .ensures) ∙ c .if1 .taken) in
-    record {
-      found = l .inv .2 ∙ next-outside b (l .i) (omega arith) ∙ rw (e, lt-ltb (4 * l .i) (length b) (omega arith));
-      outside = λ h. record { multiple = omega arith; inside = omega arith; outside = unreadable (decode w) e };
-    }
+    record { multiple = omega arith; inside = omega arith; outside = unreadable (decode w) e }
 
 loop-again : tie.Need-loop-again Inv-loop μ-loop
 loop-again c =
     let b = c .before .before .before .before .before .before .args .block .now in
     let l = c .before .before .before .before .loop in
     let k : is-outside (decode (load 4 b (4 * l .i))) ≡ false = rw (c .before .before .load32 .ensures) at (sym (c .before .is-outside .ensures) ∙ c .if1 .left) in
-    (refl, omega arith, l .inv .2 ∙ next-outside b (l .i) (omega arith) ∙ rw k)
+    (refl, omega arith, sym (rw k at (next-outside b (l .i) (omega arith))) ∙ l .inv .2)
 
 returns-2 : tie.Need-returns-2 Inv-loop μ-loop
 returns-2 c =
-    let b = c .before .before .before .args .block .now in
     let l = c .before .loop in
-    record {
-      found = l .inv .2 ∙ ended-outside b (l .i) (omega arith) ∙ sym (le-ltb (4 * l .i) (length b) (omega arith));
-      outside = λ h. absurd (omega arith);
-    }
+    absurd (apart (sym (ended-outside (c .before .before .before .args .block .now) (l .i) (omega arith)) ∙ l .inv .2))
 
 pub first-outside-spec : {M : Type 1} → statement M
 first-outside-spec =
