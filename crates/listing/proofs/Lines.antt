@@ -19,7 +19,7 @@ use Rattle.a64.proofs.Coding.{decode-in-range, encode-decode}
 use Rattle.a64_text.specs.Text.{syntax, text}
 use Rattle.a64_text.specs.Parts as Text
 use Rattle.listing.specs.Listing.{Line, lines, line, listing, is-outside, any-outside, Rewritten}
-use Rattle.listing.specs.Parts.{lines-from, line-of}
+use Rattle.listing.specs.Parts.{outside, outside-count, lines-from, line-of}
 
 -- ---- forms
 
@@ -27,7 +27,7 @@ pub apart : false ≡ true → ⊥
 apart h = let z : _≡_ {A = ℕ} 0 1 = cc in omega arith
 
 -- of a form that a test chooses
-pub outside-cond : (b : Bool) (f g : Form) → is-outside (cond b f g) ≡ cond b (is-outside f) (is-outside g)
+pub outside-cond : (b : Bool) (f g : Form) → outside (cond b f g) ≡ cond b (outside f) (outside g)
 outside-cond true f g = refl
 outside-cond false f g = refl
 
@@ -57,16 +57,46 @@ pub both-false : (a b : Bool) → a || b ≡ false → (a ≡ false) × (b ≡ f
 both-false true b h = absurd (apart (sym h))
 both-false false b h = (refl, h)
 
--- one word more, and those that are left
-pub or-more : (a b c : Bool) → cond b true a || c ≡ a || (b || c)
-or-more true true c = refl
-or-more true false c = refl
-or-more false true c = refl
-or-more false false c = refl
+-- ---- how many are outside: none, or some
 
-pub or-false : (a : Bool) → a || false ≡ a
-or-false true = refl
-or-false false = refl
+none-outside : (b c : Bool) (n : ℕ) → cond b 1 0 + n ≡ 0 → (n ≡ 0 → c ≡ false) → b || c ≡ false
+none-outside true c n h k = absurd (omega arith)
+none-outside false c n h k = k (omega arith)
+
+some-outside : (b c : Bool) (n : ℕ) → (cond b 1 0 + n ≡ 0 → ⊥) → ((n ≡ 0 → ⊥) → c ≡ true) → b || c ≡ true
+some-outside true c n h k = refl
+some-outside false c n h k = k (λ e. h (omega arith))
+
+pub none : (ls : List Line) → outside-count ls ≡ 0 → any-outside ls ≡ false
+unfolding outside-count any-outside
+none [] h = refl
+none (l ∷ ls) h = none-outside (is-outside (l .form)) (any-outside ls) (outside-count ls) h (none ls)
+
+pub some : (ls : List Line) → (outside-count ls ≡ 0 → ⊥) → any-outside ls ≡ true
+unfolding outside-count any-outside
+some [] h = absurd (h refl)
+some (l ∷ ls) h = some-outside (is-outside (l .form)) (any-outside ls) (outside-count ls) h (some ls)
+
+pub outside-at-most : (f : Form) → outside f ≤ 1
+outside-at-most f = by (is-outside f)
+  where
+    by : (b : Bool) → cond b 1 0 ≤ 1
+    by true = omega arith
+    by false = omega arith
+
+pub outside-one : (f : Form) → outside f ≡ 1 → is-outside f ≡ true
+outside-one f = by (is-outside f)
+  where
+    by : (b : Bool) → _≡_ {A = ℕ} (cond b 1 0) 1 → b ≡ true
+    by true h = refl
+    by false h = absurd (omega arith)
+
+pub outside-zero : (f : Form) → (outside f ≡ 1 → ⊥) → is-outside f ≡ false
+outside-zero f = by (is-outside f)
+  where
+    by : (b : Bool) → (_≡_ {A = ℕ} (cond b 1 0) 1 → ⊥) → b ≡ false
+    by true h = absurd (h refl)
+    by false h = refl
 
 -- ---- a line
 
@@ -112,6 +142,15 @@ module _ (block : List ℕ) where
   pub ended-listing : (i : ℕ) → length block / 4 ≤ i → listing (lines-from block i) ≡ []
   unfolding listing
   ended-listing i h = rw (ended i h)
+
+  pub next-count : (i : ℕ) → i < length block / 4
+      → outside-count (lines-from block i) ≡ outside (decode (load 4 block (4 * i))) + outside-count (lines-from block (i + 1))
+  unfolding outside-count
+  next-count i h = rw (next i h)
+
+  pub ended-count : (i : ℕ) → length block / 4 ≤ i → outside-count (lines-from block i) ≡ 0
+  unfolding outside-count
+  ended-count i h = rw (ended i h)
 
   pub ended-outside : (i : ℕ) → length block / 4 ≤ i → any-outside (lines-from block i) ≡ false
   unfolding any-outside

@@ -1,12 +1,12 @@
 // Operation List: a block's words, one line each.
 ghost use mathlib.Core.Path.{_≡_};
 ghost use mathlib.Core.Bool.{true, false};
-ghost use Prim.Native.Nat.{_+_, _≤_};
+ghost use Prim.Native.Nat.{_+_, _^_, _≤_};
 ghost use lib.Dec.{ltb};
 ghost use lib.ListN.{length};
 ghost use Rattle.ascii.specs.Parts.{Put};
 ghost use Rattle.listing.specs.Listing as L;
-ghost use Rattle.listing.specs.Parts.{line-of, Listable};
+ghost use Rattle.listing.specs.Parts.{outside-count, line-of, Listable};
 
 mod forms;
 
@@ -20,19 +20,19 @@ pub struct Listed {
     pub offset: u64,
 }
 
-// Whether a word is outside the forms. Every word is asked, so that no branch waits for one.
-fn any_outside(block: &[u8]) -> bool
-    ensures { λ r. ⌜ r ≡ L.any-outside (L.block-lines (now (block .entry))) ⌝ }
+// How many words are outside the forms.
+fn count_outside(block: &[u8]) -> u32
+    requires { ⌜ length (now block) ≤ 2 ^ 32 ⌝ }
+    ensures { λ r. ⌜ r ≡ outside-count (L.block-lines (now (block .entry))) ⌝ }
 {
     let count = block.len() / 4;
-    let mut any = false;
+    let mut n: u32 = 0;
     let mut i = 0;
     while i < count {
-        let outside = forms::is_outside(le::load32(block, 4 * i));
-        any = forms::pick(outside, true, any);
+        n += forms::is_outside(le::load32(block, 4 * i));
         i += 1;
     }
-    any
+    n
 }
 
 // The byte offset of the first of them.
@@ -43,8 +43,7 @@ fn first_outside(block: &[u8]) -> usize
     let count = block.len() / 4;
     let mut i = 0;
     while i < count {
-        let outside = forms::is_outside(le::load32(block, 4 * i));
-        if outside {
+        if forms::is_outside(le::load32(block, 4 * i)) == 1 {
             return 4 * i;
         }
         i += 1;
@@ -127,8 +126,7 @@ pub fn list(block: &[u8], output: &mut [u8]) -> Listed
     if block.len() > 0x1_0000_0000 {
         return refuse(refusals::LISTING_LENGTH, 0);
     }
-    let outside = any_outside(block);
-    if outside {
+    if count_outside(block) != 0 {
         return refuse(refusals::OUTSIDE_FORMS, first_outside(block));
     }
     let short = too_short(block, output.len());

@@ -8,7 +8,7 @@ use Rattle.le.specs.Le.{load}
 use Rattle.a64.specs.Forms.{decode}
 use Rattle.listing.specs.Listing.{block-lines, is-outside, any-outside}
 use Rattle.listing.specs.Parts.{lines-from}
-use Rattle.listing.proofs.Lines.{apart, unreadable, next-outside, ended-outside}
+use Rattle.listing.proofs.Lines.{apart, unreadable, outside-one, outside-zero, next-outside, ended-outside}
 use Rattle.listing.proofs.first_outside.Statement.{statement}
 use Rattle.listing.proofs.first_outside.Tie as tie
 
@@ -25,14 +25,15 @@ returns : tie.Need-returns Inv-loop μ-loop
 returns c =
     let l = c .before .before .before .before .loop in
     let w = load 4 (c .before .before .before .before .before .before .args .block .now) (4 * l .i) in
-    let e : is-outside (decode w) ≡ true = rw (c .before .before .load32 .ensures) at (sym (c .before .is-outside .ensures) ∙ c .if1 .taken) in
-    record { multiple = omega arith; inside = omega arith; outside = unreadable (decode w) e }
+    let q = rw (c .before .before .load32 .ensures) at (c .before .is-outside .ensures) in
+    record { multiple = omega arith; inside = omega arith; outside = unreadable (decode w) (outside-one (decode w) (sym q ∙ c .if1 .taken)) }
 
 loop-again : tie.Need-loop-again Inv-loop μ-loop
 loop-again c =
     let b = c .before .before .before .before .before .before .args .block .now in
     let l = c .before .before .before .before .loop in
-    let k : is-outside (decode (load 4 b (4 * l .i))) ≡ false = rw (c .before .before .load32 .ensures) at (sym (c .before .is-outside .ensures) ∙ c .if1 .left) in
+    let q = rw (c .before .before .load32 .ensures) at (c .before .is-outside .ensures) in
+    let k : is-outside (decode (load 4 b (4 * l .i))) ≡ false = outside-zero (decode (load 4 b (4 * l .i))) (λ h. c .if1 .left (q ∙ h)) in
     (refl, omega arith, sym (rw k at (next-outside b (l .i) (omega arith))) ∙ l .inv .2)
 
 returns-2 : tie.Need-returns-2 Inv-loop μ-loop
