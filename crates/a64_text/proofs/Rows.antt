@@ -1,6 +1,6 @@
 -- The rows of the table, by how many registers they begin with. Assumes nothing.
 use mathlib.Core.Path.{_≡_, refl}
-use mathlib.Core.List.{List, [], _∷_, _++_}
+use mathlib.Core.List.{[], _∷_, _++_}
 use Prim.Native.Nat.{ℕ, _^_, _<_}
 use Prim.Native.String.{String}
 use native.Mathlib.Omega.{arith}

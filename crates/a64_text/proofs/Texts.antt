@@ -10,7 +10,7 @@ use mathlib.Core.Bool.{Bool, true, false}
 use lib.Dec.{eqb}
 use Rattle.ascii.proofs.Numbers.{two-digits}
 use Rattle.ascii.specs.Ascii.{ascii, decimal}
-use Rattle.a64_text.specs.Operands.{Operand, X, XSP, Imm, LSL, Mem, Cond, register, conditions, condition, operand}
+use Rattle.a64_text.specs.Operands.{Operand, Imm, LSL, Mem, Cond, register, conditions, condition, operand}
 use Rattle.a64_text.specs.Text.{further}
 use Rattle.a64_text.specs.Parts.{register-operand, further-register}
 

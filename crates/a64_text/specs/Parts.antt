@@ -1,12 +1,12 @@
 -- What the functions of this crate promise one another; no operation's contract reaches it.
-use Prim.Native.Nat.{ℕ, _+_, _^_, _<_}
+use Prim.Native.Nat.{ℕ, _^_, _<_}
 use mathlib.Core.Path.{_≡_}
 use mathlib.Core.List.{List, [], _∷_, _++_}
 use mathlib.Core.Bool.{cond}
 use lib.Dec.{eqb, ltb}
 use Rattle.le.specs.Le.{bytes}
 use Rattle.a64_text.specs.declared.operand.Rest.{Rest}
-use Rattle.a64_text.specs.declared.operand.Rest.the-variants as Rest
+use Rattle.a64_text.specs.declared.operand.Rest.the-variants.{None, Lsl0, Xzr, Shifted, Memory, Condition, Fields}
 use Rattle.a64_text.specs.declared.assembly.Assembled.{Assembled}
 use Rattle.a64.specs.declared.Form.{Form}
 use Rattle.a64.specs.declared.Form.the-variants.{Unreadable}
@@ -25,23 +25,23 @@ further-register n = cond (eqb n 33) [] (register-operand n ∷ [])
 
 -- the operands after the registers
 abbrev pub rest-operands : Rest → List Operand
-rest-operands Rest.None = []
-rest-operands Rest.Lsl0 = LSL 0 ∷ []
-rest-operands Rest.Xzr = X 31 ∷ []
-rest-operands (Rest.Shifted n k) = Imm n ∷ LSL k ∷ []
-rest-operands (Rest.Memory n k) = Mem n k ∷ []
-rest-operands (Rest.Condition c) = Cond c ∷ []
-rest-operands (Rest.Fields a b) = Imm a ∷ Imm b ∷ []
+rest-operands None = []
+rest-operands Lsl0 = LSL 0 ∷ []
+rest-operands Xzr = X 31 ∷ []
+rest-operands (Shifted n k) = Imm n ∷ LSL k ∷ []
+rest-operands (Memory n k) = Mem n k ∷ []
+rest-operands (Condition c) = Cond c ∷ []
+rest-operands (Fields a b) = Imm a ∷ Imm b ∷ []
 
 -- their numbers have at most five digits
 abbrev pub Small : Rest → Type 0
-Small Rest.None = Unit {0}
-Small Rest.Lsl0 = Unit {0}
-Small Rest.Xzr = Unit {0}
-Small (Rest.Shifted n k) = (n < 100000) × (k < 100)
-Small (Rest.Memory n k) = (n < 100) × (k < 100000)
-Small (Rest.Condition c) = Unit {0}
-Small (Rest.Fields a b) = (a < 100) × (b < 100)
+Small None = Unit {0}
+Small Lsl0 = Unit {0}
+Small Xzr = Unit {0}
+Small (Shifted n k) = (n < 100000) × (k < 100)
+Small (Memory n k) = (n < 100) × (k < 100000)
+Small (Condition c) = Unit {0}
+Small (Fields a b) = (a < 100) × (b < 100)
 
 -- a mnemonic with a blank after it, as a number: its bytes, of which the lowest is the first
 abbrev pub mnemonic-length : ℕ → ℕ

@@ -1,12 +1,12 @@
 -- Bytes written one part after the other. Assumes nothing.
-use mathlib.Core.Path.{_≡_, refl, sym, ap, _∙_}
+use mathlib.Core.Path.{_≡_, refl, sym, _∙_}
 use mathlib.Core.List.{List, [], _∷_, _++_, append-assoc}
 use Prim.Native.Nat.{ℕ, _+_, _≤_, _<_}
 use native.Mathlib.Nat.{add-assoc, add-zero}
 use native.Mathlib.Numerals.{add-one}
 use native.Mathlib.Omega.{arith}
 use lib.ListN.{length, take, drop, set, length-append, length-take, length-drop, take-append-drop}
-use lib.Seq.{take-at, drop-at, drop-append-add, drop-drop, length-take-le, set-split}
+use lib.Seq.{take-at, drop-append-add, drop-drop, length-take-le, set-split}
 use Rattle.le.specs.Le.{bytes, store}
 use Rattle.le.proofs.Laws.{length-bytes}
 use Rattle.ascii.specs.Parts.{over, Put}

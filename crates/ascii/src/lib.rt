@@ -5,7 +5,7 @@ ghost use Prim.Native.Nat.{_+_, _/_, _%_, _<_, _≤_};
 ghost use lib.ListN.{length};
 ghost use Rattle.le.specs.Le.{bytes};
 ghost use Rattle.ascii.specs.Ascii.{digit, hex, decimal};
-ghost use Rattle.ascii.specs.Parts.{over, Put};
+ghost use Rattle.ascii.specs.Parts.{Put};
 
 pub fn put_byte(out: &mut [u8], at: usize, b: u8) -> usize
     requires { ⌜ at + 1 ≤ length (now out) ⌝ }

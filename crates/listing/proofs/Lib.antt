@@ -1,3 +1,4 @@
 pub mod Answering
 pub mod Bound
+pub mod Examples
 pub mod Lines

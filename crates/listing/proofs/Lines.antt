@@ -6,8 +6,8 @@ use Prim.Native.Nat.{ℕ, suc, _+_, _*_, _/_, _≤_, _<_}
 use native.Mathlib.Nat.{mul-suc}
 use native.Mathlib.Numerals.{add-one}
 use native.Mathlib.Omega.{arith}
-use lib.ListN.{length, length-append}
-use Rattle.le.specs.Le.{load}
+use lib.ListN.{length, drop, length-append}
+use Rattle.le.specs.Le.{words, load}
 use Rattle.le.proofs.Lists.{numbers-at, numbers-over}
 use Rattle.ascii.specs.Parts.{over, Put}
 use Rattle.ascii.proofs.Writing.{over-append}
@@ -19,7 +19,7 @@ use Rattle.a64.proofs.Coding.{decode-in-range, encode-decode}
 use Rattle.a64_text.specs.Text.{syntax, text}
 use Rattle.a64_text.specs.Parts as Text
 use Rattle.listing.specs.Listing.{Line, lines, line, listing, is-outside, any-outside, Rewritten}
-use Rattle.listing.specs.Parts.{outside, outside-count, lines-from, line-of}
+use Rattle.listing.specs.Parts.{outside, outside-count, line-of}
 
 -- ---- forms
 
@@ -105,6 +105,10 @@ unfolding line
 line-length l = simp (length-append, hex-length) (omega arith)
 
 -- ---- the first line, and the others
+
+-- the lines from word i on
+abbrev pub lines-from : List ℕ → ℕ → List Line
+lines-from block i = lines (4 * i) (drop i (words block))
 
 module _ (block : List ℕ) where
   -- the line of word i

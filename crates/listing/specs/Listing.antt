@@ -1,10 +1,11 @@
 -- The operation List (document 02, No. 1): a block's words, one line each.
-use Prim.Native.Nat.{ℕ, _+_, _%_, _^_, _<_}
+use Prim.Native.Nat.{ℕ, _+_, _*_, _/_, _%_, _^_, _≤_, _<_}
 use mathlib.Core.Path.{_≡_}
 use mathlib.Core.Bool.{Bool, true, false, cond, not, _||_}
 use mathlib.Core.List.{List, [], _∷_, _++_}
 use lib.Dec.{eqb, ltb}
 use lib.ListN.{length, drop}
+use Rattle.rules.specs.Limits.{longest-line}
 use Rattle.rules.specs.Refusals as Refusals
 use Rattle.le.specs.Le.{words, load}
 use Rattle.a64.specs.declared.Form.{Form}
@@ -99,3 +100,5 @@ pub record Lists (block output : List ℕ) (r : Listed) (output′ : List ℕ) :
   pub offset : r .refusal ≡ Refusals.outside-forms → Outside block (r .offset)
   pub no-offset : (r .refusal ≡ Refusals.outside-forms → ⊥) → r .offset ≡ 0
   pub fields : r .refusal ≡ Refusals.accepted → Rewritten (block-lines block)
+  -- an output of as many bytes a word as the longest line has is never too short
+  pub enough : longest-line * (length block / 4) ≤ length output → r .refusal ≡ Refusals.listing-short → ⊥

@@ -1,17 +1,12 @@
 -- What the functions of this crate promise one another; no operation's contract reaches it.
-use Prim.Native.Nat.{ℕ, _+_, _*_, _^_, _≤_}
+use Prim.Native.Nat.{ℕ, _+_, _^_, _≤_}
 use mathlib.Core.Path.{_≡_}
 use mathlib.Core.Bool.{false, cond}
 use mathlib.Core.List.{List, [], _∷_}
-use lib.ListN.{length, drop}
-use Rattle.le.specs.Le.{words}
+use lib.ListN.{length}
 use Rattle.a64.specs.declared.Form.{Form}
 use Rattle.a64.specs.Forms.{decode}
-use Rattle.listing.specs.Listing.{Line, lines, block-lines, is-outside, any-outside}
-
--- the lines from word i on
-abbrev pub lines-from : List ℕ → ℕ → List Line
-lines-from block i = lines (4 * i) (drop i (words block))
+use Rattle.listing.specs.Listing.{Line, block-lines, is-outside, any-outside}
 
 abbrev pub line-of : ℕ → ℕ → Line
 line-of at w = record { offset = at; word = w; form = decode w }

@@ -1,6 +1,5 @@
 use borrow.Author.Needs.{needs}
 use native.Mathlib.Omega.{arith}
-use Rattle.ascii.proofs.Writing.{then}
 use mathlib.Core.Path.{ap}
 use lib.ListN.{length}
 use Rattle.ascii.proofs.Numbers.{one-digit, two-digits}

@@ -1,13 +1,13 @@
 use borrow.Author.Needs.{needs}
 use native.Mathlib.Omega.{arith}
 use Prim.Native.Nat.{_≤_, _+_, _-_, _/_, _*_}
-use mathlib.Core.Path.{_≡_, refl, sym, ap, _∙_}
+use mathlib.Core.Path.{_≡_, refl}
 use lib.ListN.{length}
 use Rattle.le.specs.Le.{load}
 use Rattle.a64.specs.Forms.{decode}
 use Rattle.listing.specs.Listing.{block-lines}
-use Rattle.listing.specs.Parts.{outside, outside-count, lines-from}
-use Rattle.listing.proofs.Lines.{next-count, ended-count, outside-at-most}
+use Rattle.listing.specs.Parts.{outside-count}
+use Rattle.listing.proofs.Lines.{lines-from, next-count, ended-count, outside-at-most}
 use Rattle.listing.proofs.count_outside.Statement.{statement}
 use Rattle.listing.proofs.count_outside.Tie as tie
 

@@ -6,9 +6,8 @@ use mathlib.Core.Bool.{true, false}
 use lib.ListN.{length}
 use Rattle.le.specs.Le.{load}
 use Rattle.a64.specs.Forms.{decode}
-use Rattle.listing.specs.Listing.{block-lines, is-outside, any-outside}
-use Rattle.listing.specs.Parts.{lines-from}
-use Rattle.listing.proofs.Lines.{apart, unreadable, outside-one, outside-zero, next-outside, ended-outside}
+use Rattle.listing.specs.Listing.{is-outside, any-outside}
+use Rattle.listing.proofs.Lines.{lines-from, apart, unreadable, outside-one, outside-zero, next-outside, ended-outside}
 use Rattle.listing.proofs.first_outside.Statement.{statement}
 use Rattle.listing.proofs.first_outside.Tie as tie
 

@@ -1,16 +1,14 @@
 use borrow.Author.Needs.{needs}
 use native.Mathlib.Omega.{arith}
 use Prim.Native.Nat.{_≤_, _-_, _/_, _+_, _*_}
-use mathlib.Core.Path.{_≡_, refl, sym, ap, _∙_}
+use mathlib.Core.Path.{_≡_, refl, ap, _∙_}
 use mathlib.Core.Bool.{false}
 use lib.ListN.{length}
-use Rattle.le.specs.Le.{load}
 use Rattle.a64.specs.Forms.{decode}
 use Rattle.a64.specs.declared.Form.{Form}
 use Rattle.a64_text.specs.Text.{syntax, text}
 use Rattle.listing.specs.Listing.{block-lines, listing, any-outside}
-use Rattle.listing.specs.Parts.{lines-from}
-use Rattle.listing.proofs.Lines.{here, inside, next-length, ended-listing, line-length, readable}
+use Rattle.listing.proofs.Lines.{lines-from, here, inside, next-length, ended-listing, line-length, readable}
 use Rattle.listing.proofs.listing_length.Statement.{statement}
 use Rattle.listing.proofs.listing_length.Tie as tie
 

@@ -1,15 +1,13 @@
 use borrow.Author.Needs.{needs}
 use native.Mathlib.Omega.{arith}
-use Prim.Native.Nat.{_≤_, _-_, _/_, _+_, _*_}
+use Prim.Native.Nat.{_≤_, _-_, _/_, _+_}
 use mathlib.Core.Path.{_≡_, refl, sym, ap, _∙_}
 use mathlib.Core.Bool.{false}
 use lib.ListN.{length}
-use Rattle.le.specs.Le.{load}
 use Rattle.ascii.specs.Parts.{over}
 use Rattle.ascii.proofs.Writing.{over-nothing}
 use Rattle.listing.specs.Listing.{block-lines, listing, any-outside}
-use Rattle.listing.specs.Parts.{lines-from}
-use Rattle.listing.proofs.Lines.{here, inside, next-length, ended-listing, over-next}
+use Rattle.listing.proofs.Lines.{lines-from, inside, next-length, ended-listing, over-next}
 use Rattle.listing.proofs.put_lines.Statement.{statement}
 use Rattle.listing.proofs.put_lines.Tie as tie
 

@@ -1,4 +1,3 @@
-use borrow.Author.Needs.{needs}
 use native.Mathlib.Omega.{arith}
 use Rattle.le.specs.Le.{bytes}
 use Rattle.a64_text.specs.Operands.{conditions}

@@ -1,5 +1,4 @@
 use borrow.Author.Needs.{needs}
-use native.Mathlib.Omega.{arith}
 use Rattle.le.specs.Le.{bytes}
 use Rattle.a64_text.specs.Operands.{register}
 use Rattle.a64_text.proofs.Texts.{numbered-or-sp}
