@@ -15,7 +15,7 @@ use Rattle.a64.specs.declared.Form.{Form}
 use Rattle.a64.specs.declared.Form.the-variants.{DataProcessing, Ldr, Str, Movz, Movk, Cmp, Csel, Sxtw, AddSp, SubSp, Blr, Ret, Unreadable}
 use Rattle.a64_text.specs.Operands.{Operand, X, XSP, Imm, LSL, Mem, Cond, register, operand}
 use Rattle.a64_text.specs.Text.{syntax-of, op-syntax, syntax, further, text}
-use Rattle.a64_text.specs.Parts.{Listable}
+use Rattle.a64_text.specs.Parts.{Readable}
 use Rattle.a64_text.proofs.Texts.{shifted, memory, condition-length}
 
 -- whichever of two it is
@@ -92,7 +92,7 @@ stack : (s : String) → length (ascii s) ≤ 4 → (n : ℕ) → n < 4096
 unfolding text further operand register
 stack s h n k = simp length-append (omega (arith, digits 5 3 n (omega arith), digits 5 0 0 (omega arith)))
 
-pub longest : (f : Form) → Listable f → length (text (syntax f)) ≤ 26
+pub longest : (f : Form) → Readable f → length (text (syntax f)) ≤ 26
 unfolding further operand decimal-in
 longest (DataProcessing op d n m) l = operation op d n m (l .fits)
 longest (Ldr d n k) l = access "ldr" (omega arith) d n k (l .fits)

@@ -61,6 +61,6 @@ pub record Assembles (a : Assembled) (s : Syntax) : Type 0 where
   pub small : Small (a .rest)
 
 -- a form that has a text, with fields that fit
-pub record Listable (f : Form) : Type 0 where
+pub record Readable (f : Form) : Type 0 where
   pub fits : InRange f
   pub form : f ≡ Unreadable → ⊥

@@ -3,7 +3,7 @@ ghost use mathlib.Core.Path.{_≡_};
 ghost use Prim.Native.Nat.{_<_};
 ghost use Rattle.a64_text.specs.Operands.{X};
 ghost use Rattle.a64_text.specs.Text.{syntax, op-syntax};
-ghost use Rattle.a64_text.specs.Parts.{Assembles, Listable};
+ghost use Rattle.a64_text.specs.Parts.{Assembles, Readable};
 use crate::operand::NONE;
 use crate::operand::Rest;
 use crate::operand::SP;
@@ -98,7 +98,7 @@ fn op_assembly(op: Op, rd: u32, rn: u32, rm: u32) -> Assembled
 }
 
 pub fn assembly(f: Form) -> Assembled
-    requires { ⌜ Listable f ⌝ }
+    requires { ⌜ Readable f ⌝ }
     ensures { λ r. ⌜ Assembles r (syntax f) ⌝ }
 {
     match f {

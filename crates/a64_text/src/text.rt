@@ -4,7 +4,7 @@ ghost use Prim.Native.Nat.{_+_, _<_, _≤_, _^_};
 ghost use lib.ListN.{length};
 ghost use Rattle.a64_text.specs.Text.{syntax, text};
 ghost use Rattle.ascii.specs.Parts.{Put};
-ghost use Rattle.a64_text.specs.Parts.{Listable, mnemonic-bytes, mnemonic-length};
+ghost use Rattle.a64_text.specs.Parts.{Readable, mnemonic-bytes, mnemonic-length};
 use crate::assembly;
 use crate::operand;
 use a64::Form;
@@ -37,7 +37,7 @@ fn put_mnemonic(out: &mut [u8], at: usize, m: u64) -> usize
 }
 
 pub fn put_text(out: &mut [u8], at: usize, f: Form) -> usize
-    requires { ⌜ (at + length (text (syntax f)) ≤ length (now out)) × Listable f ⌝ }
+    requires { ⌜ (at + length (text (syntax f)) ≤ length (now out)) × Readable f ⌝ }
     ensures { λ r. ⌜ Put (now (out .entry)) at (text (syntax f)) (now (out .exit)) r ⌝ }
 {
     let a = assembly::assembly(f);
@@ -50,7 +50,7 @@ pub fn put_text(out: &mut [u8], at: usize, f: Form) -> usize
 }
 
 pub fn text_length(f: Form) -> usize
-    requires { ⌜ Listable f ⌝ }
+    requires { ⌜ Readable f ⌝ }
     ensures { λ r. ⌜ (r ≡ length (text (syntax f))) × (r ≤ 39) ⌝ }
 {
     let a = assembly::assembly(f);

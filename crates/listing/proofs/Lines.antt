@@ -46,7 +46,7 @@ unreadable (Blr rn) h = absurd (apart h)
 unreadable Ret h = absurd (apart h)
 unreadable Unreadable h = refl
 
-pub readable : (w : ℕ) → is-outside (decode w) ≡ false → Text.Listable (decode w)
+pub readable : (w : ℕ) → is-outside (decode w) ≡ false → Text.Readable (decode w)
 readable w h =
     record {
       fits = decode-in-range w;
