@@ -11,23 +11,26 @@ use Rattle.a64.specs.declared.Op.{Op}
 use Rattle.a64.specs.declared.Op.the-variants.{Add, Sub, And, Orr, Eor, Lslv, Lsrv, Asrv, Mul, Smulh, Umulh, Udiv, Sdiv}
 use Rattle.a64.specs.declared.Form.{Form}
 use Rattle.a64.specs.declared.Form.the-variants.{DataProcessing, Ldr, Str, Movz, Movk, Cmp, Csel, Sxtw, AddSp, SubSp, Blr, Ret, Unreadable}
-use Rattle.a64.specs.Parts.{InRange}
+use Rattle.a64.specs.Parts.{InRange, form-of}
 use Rattle.a64.specs.Forms.{op-word, ops, encode, rd, rn, rm, imm12, imm16, top-bits, mid-bits, low-bits, form-if, op-bits, decode-op, decode}
 
 -- ---- a form's word is read as the form
 
 -- a word of 9 fixed bits, a halfword number, 16 bits and a register
 record Split16 (w k h v d : ℕ) : Type 0 where
+  byte : w / 2 ^ 24 ≡ k / 2
   top : w / 2 ^ 23 ≡ k
   hw : w / 2 ^ 21 % 4 ≡ h
   value : imm16 w ≡ v
   reg : rd w ≡ d
 
 split16 : (w k h v d : ℕ) → w ≡ k * 2 ^ 23 + h * 2 ^ 21 + v * 2 ^ 5 + d → h < 4 → v < 65536 → d < 32 → Split16 w k h v d
-split16 w k h v d e hh hv hd = record { top = omega arith; hw = omega arith; value = omega arith; reg = omega arith }
+split16 w k h v d e hh hv hd = record { byte = omega arith; top = omega arith; hw = omega arith; value = omega arith; reg = omega arith }
 
 -- a word of 10 fixed bits, 12 bits and two registers
 record Split12 (w k i n d : ℕ) : Type 0 where
+  byte : w / 2 ^ 24 ≡ k / 4
+  bit : w / 2 ^ 22 % 2 ≡ k % 2
   half : w / 2 ^ 23 ≡ k / 2
   top : w / 2 ^ 22 ≡ k
   value : imm12 w ≡ i
@@ -37,10 +40,13 @@ record Split12 (w k i n d : ℕ) : Type 0 where
 
 split12 : (w k i n d : ℕ) → w ≡ k * 2 ^ 22 + i * 2 ^ 10 + n * 2 ^ 5 + d → i < 4096 → n < 32 → d < 32 → Split12 w k i n d
 split12 w k i n d e hi hn hd =
-    record { half = omega arith; top = omega arith; value = omega arith; low = omega arith; base = omega arith; reg = omega arith }
+    record { byte = omega arith; bit = omega arith; half = omega arith; top = omega arith; value = omega arith; low = omega arith; base = omega arith; reg = omega arith }
 
 -- a word of 11 fixed bits, a register, six bits and two registers
 record Split6 (w t m s n d : ℕ) : Type 0 where
+  byte : w / 2 ^ 24 ≡ t / 8
+  three-bits : w / 2 ^ 21 % 8 ≡ t % 8
+  bit : w / 2 ^ 21 % 2 ≡ t % 2
   quarter : w / 2 ^ 23 ≡ t / 4
   half : w / 2 ^ 22 ≡ t / 2
   top : w / 2 ^ 21 ≡ t
@@ -56,6 +62,9 @@ split6 : (w t m s n d : ℕ) → w ≡ t * 2 ^ 21 + m * 2 ^ 16 + s * 2 ^ 10 + n 
     → Split6 w t m s n d
 split6 w t m s n d e hm hs hn hd =
     record {
+      byte = omega arith;
+      three-bits = omega arith;
+      bit = omega arith;
       quarter = omega arith;
       half = omega arith;
       top = omega arith;
@@ -219,3 +228,49 @@ not-quarter w k a b c d e = omega arith
 
 pub not-half : (w k : ℕ) → (w / 2 ^ 21 ≡ k * 2 → ⊥) → (w / 2 ^ 21 ≡ k * 2 + 1 → ⊥) → w / 2 ^ 22 ≡ k → ⊥
 not-half w k a b e = omega arith
+
+-- ---- by the upper byte
+
+-- an operation's word is found by its byte
+op-by-byte : (op : Op) (w d n m : ℕ) → Split6 w (op-word op / 2 ^ 21) m (op-word op / 2 ^ 10 % 2 ^ 6) n d → form-of w ≡ DataProcessing op d n m
+unfolding form-of
+op-by-byte Add w d n m s = simp (s .byte, s .third, s .base, s .reg)
+op-by-byte Sub w d n m s = simp (s .byte, s .third, s .base, s .reg)
+op-by-byte And w d n m s = simp (s .byte, s .third, s .base, s .reg)
+op-by-byte Orr w d n m s = simp (s .byte, s .third, s .base, s .reg)
+op-by-byte Eor w d n m s = simp (s .byte, s .third, s .base, s .reg)
+op-by-byte Lslv w d n m s = simp (s .byte, s .three-bits, s .six, s .third, s .base, s .reg)
+op-by-byte Lsrv w d n m s = simp (s .byte, s .three-bits, s .six, s .third, s .base, s .reg)
+op-by-byte Asrv w d n m s = simp (s .byte, s .three-bits, s .six, s .third, s .base, s .reg)
+op-by-byte Mul w d n m s = simp (s .byte, s .three-bits, s .third, s .base, s .reg)
+op-by-byte Smulh w d n m s = simp (s .byte, s .three-bits, s .third, s .base, s .reg)
+op-by-byte Umulh w d n m s = simp (s .byte, s .three-bits, s .third, s .base, s .reg)
+op-by-byte Udiv w d n m s = simp (s .byte, s .three-bits, s .six, s .third, s .base, s .reg)
+op-by-byte Sdiv w d n m s = simp (s .byte, s .three-bits, s .six, s .third, s .base, s .reg)
+
+form-encode : (f : Form) → InRange f → (f ≡ Unreadable → ⊥) → form-of (encode f) ≡ f
+unfolding form-of
+form-encode (DataProcessing op d n m) r k =
+    let e = op-row op .whole in
+    op-by-byte op _ d n m (split6 (encode (DataProcessing op d n m)) _ m _ n d (omega arith) (r .2) (omega arith) (r .1) (r .0))
+form-encode (Movz d h v) r k = let s = split16 _ 0x1A5 h v d refl (r .1) (r .2) (r .0) in simp (s .byte, s .hw, s .value, s .reg)
+form-encode (Movk d h v) r k = let s = split16 _ 0x1E5 h v d refl (r .1) (r .2) (r .0) in simp (s .byte, s .hw, s .value, s .reg)
+form-encode (Ldr d n i) r k = let s = split12 _ 0x3E5 i n d refl (r .2) (r .1) (r .0) in simp (s .byte, s .bit, s .value, s .base, s .reg)
+form-encode (Str d n i) r k = let s = split12 _ 0x3E4 i n d refl (r .2) (r .1) (r .0) in simp (s .byte, s .bit, s .value, s .base, s .reg)
+form-encode (AddSp i) r k = let s = split12 (encode (AddSp i)) 0x244 i 31 31 (omega arith) r (omega arith) (omega arith) in simp (s .byte, s .value)
+form-encode (SubSp i) r k = let s = split12 (encode (SubSp i)) 0x344 i 31 31 (omega arith) r (omega arith) (omega arith) in simp (s .byte, s .value)
+form-encode (Cmp n m) r k =
+    let s = split6 (encode (Cmp n m)) 0x758 m 0 n 31 (omega arith) (r .1) (omega arith) (r .0) (omega arith) in simp (s .byte, s .base, s .third)
+form-encode (Csel d n m c) r k =
+    let s = split6 (encode (Csel d n m c)) 0x4D4 m (c * 4) n d (omega arith) (r .2) (omega arith) (r .1) (r .0) in
+    let f : c * 4 / 4 ≡ c = omega arith in
+    simp (s .byte, s .three-bits, s .four, s .base, s .third, s .reg, f)
+form-encode (Sxtw d n) r k =
+    let s = split6 (encode (Sxtw d n)) 0x49A 0 31 n d (omega arith) (omega arith) (omega arith) (r .1) (r .0) in simp (s .byte, s .base, s .reg)
+form-encode (Blr n) r k =
+    let s = split6 (encode (Blr n)) 0x6B1 31 0 n 0 (omega arith) (omega arith) (omega arith) r (omega arith) in simp (s .byte, s .bit, s .base)
+form-encode Ret r k = refl
+form-encode Unreadable r k = absurd (k refl)
+
+pub form-decode : (w : ℕ) → (decode w ≡ Unreadable → ⊥) → form-of w ≡ decode w
+form-decode w k = rw (encode-decode w k) at (form-encode (decode w) (decode-in-range w) k)

@@ -1,7 +1,11 @@
 -- What the functions of this crate promise one another; no operation's contract reaches it.
-use Prim.Native.Nat.{_<_}
+use Prim.Native.Nat.{ℕ, _/_, _%_, _^_, _<_}
+use mathlib.Core.Bool.{cond}
+use lib.Dec.{eqb}
+use Rattle.a64.specs.declared.Op.the-variants.{Add, Sub, And, Orr, Eor, Lslv, Lsrv, Asrv, Mul, Smulh, Umulh, Udiv, Sdiv}
 use Rattle.a64.specs.declared.Form.{Form}
 use Rattle.a64.specs.declared.Form.the-variants.{DataProcessing, Ldr, Str, Movz, Movk, Cmp, Csel, Sxtw, AddSp, SubSp, Blr, Ret, Unreadable}
+use Rattle.a64.specs.Forms.{rd, rn, rm, imm12, imm16}
 
 -- each field fits its bits
 abbrev pub InRange : Form → Type 0
@@ -18,3 +22,36 @@ InRange (SubSp imm) = imm < 4096
 InRange (Blr rn) = rn < 32
 InRange Ret = Unit {0}
 InRange Unreadable = Unit {0}
+
+-- ---- the form of a word that is one of the 24, by its upper byte
+
+abbrev pub form-9a : ℕ → Form
+form-9a w =
+    cond (eqb (w / 2 ^ 21 % 8) 4) (Csel (rd w) (rn w) (rm w) (w / 2 ^ 12 % 16))
+    (cond (eqb (w / 2 ^ 10 % 64) 8) (DataProcessing Lslv (rd w) (rn w) (rm w))
+    (cond (eqb (w / 2 ^ 10 % 64) 9) (DataProcessing Lsrv (rd w) (rn w) (rm w))
+    (cond (eqb (w / 2 ^ 10 % 64) 10) (DataProcessing Asrv (rd w) (rn w) (rm w))
+    (cond (eqb (w / 2 ^ 10 % 64) 2) (DataProcessing Udiv (rd w) (rn w) (rm w)) (DataProcessing Sdiv (rd w) (rn w) (rm w))))))
+
+abbrev pub form-9b : ℕ → Form
+form-9b w =
+    cond (eqb (w / 2 ^ 21 % 8) 0) (DataProcessing Mul (rd w) (rn w) (rm w))
+    (cond (eqb (w / 2 ^ 21 % 8) 2) (DataProcessing Smulh (rd w) (rn w) (rm w)) (DataProcessing Umulh (rd w) (rn w) (rm w)))
+
+unfoldable pub form-of : ℕ → Form
+form-of w =
+    cond (eqb (w / 2 ^ 24) 0x8A) (DataProcessing And (rd w) (rn w) (rm w))
+    (cond (eqb (w / 2 ^ 24) 0x8B) (DataProcessing Add (rd w) (rn w) (rm w))
+    (cond (eqb (w / 2 ^ 24) 0x91) (AddSp (imm12 w))
+    (cond (eqb (w / 2 ^ 24) 0x93) (Sxtw (rd w) (rn w))
+    (cond (eqb (w / 2 ^ 24) 0x9A) (form-9a w)
+    (cond (eqb (w / 2 ^ 24) 0x9B) (form-9b w)
+    (cond (eqb (w / 2 ^ 24) 0xAA) (DataProcessing Orr (rd w) (rn w) (rm w))
+    (cond (eqb (w / 2 ^ 24) 0xCA) (DataProcessing Eor (rd w) (rn w) (rm w))
+    (cond (eqb (w / 2 ^ 24) 0xCB) (DataProcessing Sub (rd w) (rn w) (rm w))
+    (cond (eqb (w / 2 ^ 24) 0xD1) (SubSp (imm12 w))
+    (cond (eqb (w / 2 ^ 24) 0xD2) (Movz (rd w) (w / 2 ^ 21 % 4) (imm16 w))
+    (cond (eqb (w / 2 ^ 24) 0xEB) (Cmp (rn w) (rm w))
+    (cond (eqb (w / 2 ^ 24) 0xF2) (Movk (rd w) (w / 2 ^ 21 % 4) (imm16 w))
+    (cond (eqb (w / 2 ^ 24) 0xF9) (cond (eqb (w / 2 ^ 22 % 2) 1) (Ldr (rd w) (rn w) (imm12 w)) (Str (rd w) (rn w) (imm12 w)))
+    (cond (eqb (w / 2 ^ 21 % 2) 1) (Blr (rn w)) Ret))))))))))))))

@@ -1,6 +1,8 @@
 // The A64 forms that `A64Emitter` and the literal RET produce, and the form of a word.
 ghost use mathlib.Core.Path.{_≡_};
+ghost use Rattle.a64.specs.declared.Form.the-variants.{Unreadable};
 ghost use Rattle.a64.specs.Forms.{decode, decode-op, decode-register, form-if, ops};
+ghost use Rattle.a64.specs.Parts.{form-9a, form-9b, form-of};
 
 // The operations of the three-register forms.
 pub enum Op {
@@ -122,4 +124,83 @@ pub fn decode(w: u32) -> Form
         0x689 => form_if(w % 1024 == 0x3FF, Form::SubSp(imm)),
         _ => decode_register(w),
     }
+}
+
+// ---- the form of a word that is one of the 24, by its upper byte: where words are known to be readable, this is the shorter way
+
+fn form_9a(w: u32) -> Form
+    ensures { λ r. ⌜ r ≡ form-9a w ⌝ }
+{
+    let rd = w % 32;
+    let rn = w / 32 % 32;
+    let rm = w / 0x1_0000 % 32;
+    if w / 0x20_0000 % 8 == 4 {
+        return Form::Csel(rd, rn, rm, w / 4096 % 16);
+    }
+    let op = match w / 1024 % 64 {
+        8 => Op::Lslv,
+        9 => Op::Lsrv,
+        10 => Op::Asrv,
+        2 => Op::Udiv,
+        _ => Op::Sdiv,
+    };
+    Form::DataProcessing(op, rd, rn, rm)
+}
+
+fn form_9b(w: u32) -> Form
+    ensures { λ r. ⌜ r ≡ form-9b w ⌝ }
+{
+    let rd = w % 32;
+    let rn = w / 32 % 32;
+    let rm = w / 0x1_0000 % 32;
+    let op = match w / 0x20_0000 % 8 {
+        0 => Op::Mul,
+        2 => Op::Smulh,
+        _ => Op::Umulh,
+    };
+    Form::DataProcessing(op, rd, rn, rm)
+}
+
+fn form_by_byte(w: u32) -> Form
+    ensures { λ r. ⌜ r ≡ form-of w ⌝ }
+{
+    let rd = w % 32;
+    let rn = w / 32 % 32;
+    let rm = w / 0x1_0000 % 32;
+    let imm = w / 1024 % 4096;
+    let half = w / 32 % 0x1_0000;
+    match w / 0x100_0000 {
+        0x8A => Form::DataProcessing(Op::And, rd, rn, rm),
+        0x8B => Form::DataProcessing(Op::Add, rd, rn, rm),
+        0x91 => Form::AddSp(imm),
+        0x93 => Form::Sxtw(rd, rn),
+        0x9A => form_9a(w),
+        0x9B => form_9b(w),
+        0xAA => Form::DataProcessing(Op::Orr, rd, rn, rm),
+        0xCA => Form::DataProcessing(Op::Eor, rd, rn, rm),
+        0xCB => Form::DataProcessing(Op::Sub, rd, rn, rm),
+        0xD1 => Form::SubSp(imm),
+        0xD2 => Form::Movz(rd, w / 0x20_0000 % 4, half),
+        0xEB => Form::Cmp(rn, rm),
+        0xF2 => Form::Movk(rd, w / 0x20_0000 % 4, half),
+        0xF9 => {
+            if w / 0x40_0000 % 2 == 1 {
+                return Form::Ldr(rd, rn, imm);
+            }
+            Form::Str(rd, rn, imm)
+        }
+        _ => {
+            if w / 0x20_0000 % 2 == 1 {
+                return Form::Blr(rn);
+            }
+            Form::Ret
+        }
+    }
+}
+
+pub fn decode_readable(w: u32) -> Form
+    requires { ⌜ (decode w ≡ Unreadable → ⊥) ⌝ }
+    ensures { λ r. ⌜ r ≡ decode w ⌝ }
+{
+    form_by_byte(w)
 }

@@ -60,7 +60,7 @@ fn listing_length(block: &[u8]) -> usize
     let mut total = 0;
     let mut i = 0;
     while i < count {
-        total += 19 + text::text_length(a64::decode(le::load32(block, 4 * i)));
+        total += 19 + text::text_length(a64::decode_readable(le::load32(block, 4 * i)));
         i += 1;
     }
     total
@@ -75,7 +75,7 @@ fn put_line(out: &mut [u8], at: usize, offset: u32, w: u32) -> usize
     let at = ascii::put_byte(out, at, b' ');
     let at = ascii::put_hex8(out, at, w);
     let at = ascii::put_byte(out, at, b' ');
-    let at = text::put_text(out, at, a64::decode(w));
+    let at = text::put_text(out, at, a64::decode_readable(w));
     ascii::put_byte(out, at, b'\n')
 }
 

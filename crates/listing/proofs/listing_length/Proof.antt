@@ -21,17 +21,22 @@ abbrev μ-loop : tie.MeasureT-loop
 loop-holds : tie.Need-loop-holds Inv-loop μ-loop
 loop-holds c = (refl, omega arith, c .before .pre .inside, omega arith, omega arith)
 
+decode-readable-requires : tie.Need-decode-readable-requires Inv-loop μ-loop
+decode-readable-requires c κs =
+    let l = c .before .before .loop in
+    rw (c .load32 .ensures) (readable _ (inside (c .before .before .before .before .args .block .now) (l .i) (omega arith) (l .inv .2) .0) .form)
+
 text-length-requires : tie.Need-text-length-requires Inv-loop μ-loop
 text-length-requires c κs =
     let b = c .before .before .before .before .before .args .block .now in
     let l = c .before .before .before .loop in
-    rw (c .decode .ensures, c .before .load32 .ensures) (readable _ (inside b (l .i) (omega arith) (l .inv .2) .0))
+    rw (c .decode-readable .ensures, c .before .load32 .ensures) (readable _ (inside b (l .i) (omega arith) (l .inv .2) .0))
 
 loop-again : tie.Need-loop-again Inv-loop μ-loop
 loop-again c =
     let b = c .before .before .before .before .before .before .args .block .now in
     let l = c .before .before .before .before .loop in
-    let q = c .before .decode .ensures ∙ ap decode (c .before .before .load32 .ensures) in
+    let q = c .before .decode-readable .ensures ∙ ap decode (c .before .before .load32 .ensures) in
     let t = c .text-length .ensures .0 ∙ ap (λ (f : Form). length (text (syntax f))) q in
     let n = next-length b (l .i) (omega arith) in
     (refl, omega arith, inside b (l .i) (omega arith) (l .inv .2) .1, omega (arith, line-length (here b (l .i))), omega arith)
@@ -51,7 +56,7 @@ listing-length-spec =
     loop-holds
     (λ c. search needs)
     (λ c κs. search needs)
-    (λ c κs. search needs)
+    decode-readable-requires
     text-length-requires
     (λ c. search needs)
     (λ c. search needs)
