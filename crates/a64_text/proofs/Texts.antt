@@ -5,10 +5,7 @@ use Prim.Native.Nat.{ℕ, zero, suc, _+_, _<_, _≤_}
 use Prim.Native.String.{String}
 use native.Mathlib.Omega.{arith}
 use lib.ListN.{length, getD}
-use borrow.Author.Tests.{ne-eqb, eqb-true, eqb-false}
-use mathlib.Core.Bool.{Bool, true, false}
-use lib.Dec.{eqb}
-use Rattle.ascii.proofs.Numbers.{two-digits}
+use borrow.Author.Tests.{ne-eqb}
 use Rattle.ascii.specs.Ascii.{ascii, decimal}
 use Rattle.a64_text.specs.Operands.{Operand, Imm, LSL, Mem, Cond, register, conditions, condition, operand}
 use Rattle.a64_text.specs.Text.{further}
@@ -21,14 +18,6 @@ numbered-or-sp n h = rw (ne-eqb n 31 h)
 pub numbered : (n : ℕ) → n < 31 → operand (register-operand n) ≡ ascii "x" ++ decimal n
 unfolding operand register
 numbered n h = rw (ne-eqb n 32 (λ e. omega arith), ne-eqb n 31 (λ e. omega arith))
-
--- its length where its number has two digits, xzr included
-pub two-letters : (n : ℕ) → 10 ≤ n → n < 32 → length (operand (register-operand n)) ≡ 3
-two-letters n h k = by (eqb n 31) refl
-  where
-    by : (b : Bool) → eqb n 31 ≡ b → length (operand (register-operand n)) ≡ 3
-    by true e = let q : n ≡ 31 = eqb-true n 31 e in rw q (unfold operand register in refl)
-    by false e = let q : n < 31 = omega (arith, eqb-false n 31 e) in rw (numbered n q, two-digits n h (omega arith))
 
 pub further-none : (n : ℕ) → n ≡ 33 → further (further-register n) ≡ []
 unfolding further

@@ -1,4 +1,4 @@
-// The operands of the Arm assembler, written and measured.
+// The operands of the Arm assembler.
 ghost use mathlib.Core.Path.{_≡_};
 ghost use mathlib.Core.List.{_++_};
 ghost use Prim.Native.Nat.{_+_, _<_, _≤_};
@@ -154,55 +154,5 @@ pub fn put_rest(out: &mut [u8], at: usize, rest: Rest) -> usize
             let at = put_immediate(out, at, a);
             put_immediate(out, at, b)
         }
-    }
-}
-
-fn x_sp_length(n: u32) -> usize
-    requires { ⌜ n < 100 ⌝ }
-    ensures { λ r. ⌜ (r ≡ length (register "sp" n)) × (r ≤ 6) ⌝ }
-{
-    if n != 31 {
-        return 1 + ascii::decimal_length(n);
-    }
-    2
-}
-
-pub fn register_length(n: u32) -> usize
-    requires { ⌜ n < 33 ⌝ }
-    ensures { λ r. ⌜ (r ≡ length (operand (register-operand n))) × (r ≤ 3) ⌝ }
-{
-    if n < 10 {
-        return 2;
-    }
-    if n < 32 {
-        return 3;
-    }
-    2
-}
-
-pub fn further_length(n: u32) -> usize
-    requires { ⌜ n < 34 ⌝ }
-    ensures { λ r. ⌜ (r ≡ length (further (further-register n))) × (r ≤ 5) ⌝ }
-{
-    if n == NONE {
-        return 0;
-    }
-    2 + register_length(n)
-}
-
-pub fn rest_length(rest: Rest) -> usize
-    requires { ⌜ Small rest ⌝ }
-    ensures { λ r. ⌜ (r ≡ length (further (rest-operands rest))) × (r ≤ 20) ⌝ }
-{
-    match rest {
-        Rest::None => 0,
-        Rest::Lsl0 => 8,
-        Rest::Xzr => 5,
-        Rest::Shifted(n, amount) => {
-            10 + ascii::decimal_length(n) + ascii::decimal_length(amount)
-        }
-        Rest::Memory(n, offset) => 7 + x_sp_length(n) + ascii::decimal_length(offset),
-        Rest::Condition(_) => 4,
-        Rest::Fields(a, b) => 6 + ascii::decimal_length(a) + ascii::decimal_length(b),
     }
 }

@@ -1,25 +1,12 @@
-// The text of a form, and how long it is.
-ghost use mathlib.Core.Path.{_≡_};
+// The text of a form.
 ghost use Prim.Native.Nat.{_+_, _<_, _≤_, _^_};
 ghost use lib.ListN.{length};
 ghost use Rattle.a64_text.specs.Text.{syntax, text};
 ghost use Rattle.ascii.specs.Parts.{Put};
-ghost use Rattle.a64_text.specs.Parts.{Readable, mnemonic-bytes, mnemonic-length};
+ghost use Rattle.a64_text.specs.Parts.{Readable, mnemonic-bytes};
 use crate::assembly;
 use crate::operand;
 use a64::Form;
-
-fn mnemonic_length(m: u64) -> usize
-    ensures { λ r. ⌜ (r ≡ mnemonic-length m) × (r ≤ 6) ⌝ }
-{
-    if m < 0x1_0000_0000 {
-        return 4;
-    }
-    if m < 0x100_0000_0000 {
-        return 5;
-    }
-    6
-}
 
 fn put_mnemonic(out: &mut [u8], at: usize, m: u64) -> usize
     requires { ⌜ (at + length (mnemonic-bytes m) ≤ length (now out)) × (m < 2 ^ 48) ⌝ }
@@ -47,16 +34,4 @@ pub fn put_text(out: &mut [u8], at: usize, f: Form) -> usize
     let at = operand::put_further(out, at, a.second);
     let at = operand::put_further(out, at, a.third);
     operand::put_rest(out, at, rest)
-}
-
-pub fn text_length(f: Form) -> usize
-    requires { ⌜ Readable f ⌝ }
-    ensures { λ r. ⌜ (r ≡ length (text (syntax f))) × (r ≤ 39) ⌝ }
-{
-    let a = assembly::assembly(f);
-    let rest = a.rest;
-    let first = operand::register_length(a.first);
-    let second = operand::further_length(a.second);
-    let third = operand::further_length(a.third);
-    mnemonic_length(a.mnemonic) + first + second + third + operand::rest_length(rest)
 }

@@ -106,23 +106,3 @@ pub fn put_decimal(out: &mut [u8], at: usize, n: u32) -> usize
     let at = put_pair(out, at, n / 100 % 100);
     put_pair(out, at, n % 100)
 }
-
-// How many digits it has.
-pub fn decimal_length(n: u32) -> usize
-    requires { ⌜ n < 100000 ⌝ }
-    ensures { λ r. ⌜ (r ≡ length (decimal n)) × (r ≤ 5) ⌝ }
-{
-    if n < 10 {
-        return 1;
-    }
-    if n < 100 {
-        return 2;
-    }
-    if n < 1000 {
-        return 3;
-    }
-    if n < 10_000 {
-        return 4;
-    }
-    5
-}

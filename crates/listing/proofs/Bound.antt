@@ -13,6 +13,9 @@ use Rattle.listing.specs.Listing.{lines, block-lines, line, listing, is-
 use Rattle.listing.specs.Parts.{line-of}
 use Rattle.listing.proofs.Lines.{readable, both-false, line-length}
 
+pub line-bound : (at w : ℕ) → is-outside (decode w) ≡ false → length (line (line-of at w)) ≤ longest-line
+line-bound at w h = rw (line-length (line-of at w)) (omega (arith, longest (decode w) (readable w h)))
+
 length-numbers : (n : ℕ) (m : List ℕ) → length (numbers 4 n m) ≡ n
 unfolding numbers
 length-numbers zero m = refl
@@ -23,9 +26,8 @@ unfolding lines any-outside listing
 lines-bound at [] h = omega arith
 lines-bound at (w ∷ ws) h =
     let b = both-false (is-outside (decode w)) (any-outside (lines (at + 4) ws)) h in
-    let l = line-of at w in
-    rw (length-append (line l) (listing (lines (at + 4) ws)), line-length l)
-    (omega (arith, lines-bound (at + 4) ws (b .1), longest (decode w) (readable w (b .0))))
+    rw (length-append (line (line-of at w)) (listing (lines (at + 4) ws)))
+    (omega (arith, lines-bound (at + 4) ws (b .1), line-bound at w (b .0)))
 
 pub listing-bound : (block : List ℕ) → any-outside (block-lines block) ≡ false
     → length (listing (block-lines block)) ≤ longest-line * (length block / 4)

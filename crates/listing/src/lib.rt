@@ -51,21 +51,6 @@ fn first_outside(block: &[u8]) -> usize
     4 * i
 }
 
-// How many bytes the lines have.
-fn listing_length(block: &[u8]) -> usize
-    requires { ⌜ Listable (now block) ⌝ }
-    ensures { λ r. ⌜ r ≡ length (L.listing (L.block-lines (now (block .entry)))) ⌝ }
-{
-    let count = block.len() / 4;
-    let mut total = 0;
-    let mut i = 0;
-    while i < count {
-        total += 19 + text::text_length(a64::decode_readable(le::load32(block, 4 * i)));
-        i += 1;
-    }
-    total
-}
-
 // Offset and word in hexadecimal, the text, a line feed.
 fn put_line(out: &mut [u8], at: usize, offset: u32, w: u32) -> usize
     requires { ⌜ (at + length (L.line (line-of offset w)) ≤ length (now out)) × (L.is-outside (line-of offset w .form) ≡ false) ⌝ }
@@ -77,6 +62,23 @@ fn put_line(out: &mut [u8], at: usize, offset: u32, w: u32) -> usize
     let at = ascii::put_byte(out, at, b' ');
     let at = text::put_text(out, at, a64::decode_readable(w));
     ascii::put_byte(out, at, b'\n')
+}
+
+// How many bytes the lines have: each is written over the one before it.
+fn listing_length(block: &[u8]) -> usize
+    requires { ⌜ Listable (now block) ⌝ }
+    ensures { λ r. ⌜ r ≡ length (L.listing (L.block-lines (now (block .entry)))) ⌝ }
+{
+    let mut line = [0u8; rules::LONGEST_LINE];
+    let count = block.len() / 4;
+    let mut total = 0;
+    let mut i = 0;
+    while i < count {
+        let offset = 4 * i;
+        total += put_line(&mut line, 0, offset as u32, le::load32(block, offset));
+        i += 1;
+    }
+    total
 }
 
 // The lines at the front, and how many bytes they have.
