@@ -1,4 +1,3 @@
-use borrow.Author.Needs.{needs}
 use borrow.Author.Tests.{eq-eqb, ne-eqb}
 use Rattle.a64.proofs.form_9a.Statement.{statement}
 use Rattle.a64.proofs.form_9a.Tie as tie

@@ -1,4 +1,3 @@
-use borrow.Author.Needs.{needs}
 use borrow.Author.Tests.{ne-eqb}
 use Rattle.a64.proofs.form_9b.Statement.{statement}
 use Rattle.a64.proofs.form_9b.Tie as tie
