@@ -12,7 +12,7 @@ fn pick(test: bool, yes: u32, no: u32) -> u32
 }
 
 // The operations of the three-register forms, by bits 31 to 21 and 15 to 10.
-fn is_no_op(w: u32) -> u32
+fn outside_op(w: u32) -> u32
     ensures { λ r. ⌜ r ≡ outside (decode-op ops w) ⌝ }
 {
     let bits = w / 0x20_0000 * 64 + w / 1024 % 64;
@@ -32,11 +32,11 @@ fn is_no_op(w: u32) -> u32
 }
 
 // The forms without an immediate.
-fn is_no_register_form(w: u32) -> u32
+fn outside_register(w: u32) -> u32
     ensures { λ r. ⌜ r ≡ outside (decode-register w) ⌝ }
 {
     let top = w / 0x20_0000;
-    let r = is_no_op(w);
+    let r = outside_op(w);
     let r = pick(top == 0x6B2, pick(w % 0x20_0000 == 0x1F_03C0, 0, 1), r);
     let blr = pick(w % 32 == 0, 0, 1);
     let r = pick(top == 0x6B1, pick(w / 1024 % 2048 == 0x7C0, blr, 1), r);
@@ -52,7 +52,7 @@ pub fn is_outside(w: u32) -> u32
 {
     let top = w / 0x40_0000;
     let sp = pick(w % 1024 == 0x3FF, 0, 1);
-    let r = is_no_register_form(w);
+    let r = outside_register(w);
     let r = pick(top == 0x344, sp, r);
     let r = pick(top == 0x244, sp, r);
     let r = pick(top == 0x3E4, 0, r);

@@ -6,7 +6,7 @@ use Rattle.listing.proofs.forms.is_outside.Tie as tie
 
 returns : tie.Need-returns
 unfolding decode
-returns c = rw (c .pick7 .ensures, c .before .pick6 .ensures, c .before .before .pick5 .ensures, c .before .before .before .pick4 .ensures, c .before .before .before .before .pick3 .ensures, c .before .before .before .before .before .pick2 .ensures, c .before .before .before .before .before .before .before .pick .ensures, c .before .before .before .before .before .before .is-no-register-form .ensures) (simp outside-cond)
+returns c = rw (c .pick7 .ensures, c .before .pick6 .ensures, c .before .before .pick5 .ensures, c .before .before .before .pick4 .ensures, c .before .before .before .before .pick3 .ensures, c .before .before .before .before .before .pick2 .ensures, c .before .before .before .before .before .before .before .pick .ensures, c .before .before .before .before .before .before .outside-register .ensures) (simp outside-cond)
 
 pub is-outside-spec : {M : Type 1} → statement M
 is-outside-spec =

@@ -1,13 +1,13 @@
 use borrow.Author.Needs.{needs}
 use Rattle.listing.proofs.Lines.{outside-cond}
-use Rattle.listing.proofs.forms.is_no_op.Statement.{statement}
-use Rattle.listing.proofs.forms.is_no_op.Tie as tie
+use Rattle.listing.proofs.forms.outside_op.Statement.{statement}
+use Rattle.listing.proofs.forms.outside_op.Tie as tie
 
 returns : tie.Need-returns
 returns c = rw (c .pick13 .ensures, c .before .pick12 .ensures, c .before .before .pick11 .ensures, c .before .before .before .pick10 .ensures, c .before .before .before .before .pick9 .ensures, c .before .before .before .before .before .pick8 .ensures, c .before .before .before .before .before .before .pick7 .ensures, c .before .before .before .before .before .before .before .pick6 .ensures, c .before .before .before .before .before .before .before .before .pick5 .ensures, c .before .before .before .before .before .before .before .before .before .pick4 .ensures, c .before .before .before .before .before .before .before .before .before .before .pick3 .ensures, c .before .before .before .before .before .before .before .before .before .before .before .pick2 .ensures, c .before .before .before .before .before .before .before .before .before .before .before .before .pick .ensures) (simp outside-cond)
 
-pub is-no-op-spec : {M : Type 1} → statement M
-is-no-op-spec =
+pub outside-op-spec : {M : Type 1} → statement M
+outside-op-spec =
     tie.close
     (tie.spec
     (λ c. search needs)
