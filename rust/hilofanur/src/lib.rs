@@ -190,17 +190,18 @@ pub fn a64_run(
 
 /// List: a line for each word of `block`, its byte offset, the word, and the Arm manual's unaliased assembler form.
 ///
-/// It allocates the text, [`LONGEST_LINE`] bytes a word, where it is not refused. [`list_into`] allocates nothing, and tells
-/// where a word outside the forms stands.
+/// It allocates the text, [`LONGEST_LINE`] bytes a word; for a block longer than [`LONGEST_BLOCK`] only where it is not refused.
+/// [`list_into`] allocates nothing, and tells where a word outside the forms stands.
 ///
 /// # Errors
 /// Refusals 12 and 13.
 pub fn list(block: &[u8]) -> Result<String, Refusal> {
     // With no output 12 and 13 are told before 14.
-    match list_into(block, &mut []) {
-        Ok(_) => return Ok(String::new()),
-        Err(refused) if refused.refusal == Refusal::ListingShort => {}
-        Err(refused) => return Err(refused.refusal),
+    if block.len() > LONGEST_BLOCK {
+        match list_into(block, &mut []) {
+            Err(refused) if refused.refusal != Refusal::ListingShort => return Err(refused.refusal),
+            _ => {}
+        }
     }
     let mut output = vec![0; block.len() / 4 * LONGEST_LINE];
     let length = list_into(block, &mut output)?;

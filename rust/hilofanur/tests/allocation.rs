@@ -1,4 +1,4 @@
-//! What the listing allocates: `list_into` nothing, `list` its text alone, and nothing where it is refused.
+//! What the listing allocates: `list_into` nothing, `list` its text alone, and nothing where it refuses more than the longest block.
 
 use hilofanur::{list, list_into, Refusal, LONGEST_LINE};
 use std::alloc::{GlobalAlloc, Layout, System};
@@ -33,22 +33,27 @@ fn allocated<T>(run: impl FnOnce() -> T) -> (usize, T) {
     (BYTES.get() - before, done)
 }
 
+/// More than the longest block has.
+const WORDS: usize = 2_000;
+
 #[test]
 fn allocations() {
-    let ret = 0xD65F_03C0_u32.to_le_bytes().repeat(1_000);
+    let ret = 0xD65F_03C0_u32.to_le_bytes().repeat(WORDS);
     let mut unreadable = ret.clone();
     unreadable[4] = 0;
-    let mut output = vec![0; 1_000 * LONGEST_LINE];
+    let mut output = vec![0; WORDS * LONGEST_LINE];
     let line = "00000000 d65f03c0 ret x30\n".len();
 
     let (bytes, text) = allocated(|| list(&ret));
-    assert_eq!((bytes, text.map(|text| text.len())), (1_000 * LONGEST_LINE, Ok(1_000 * line)));
+    assert_eq!((bytes, text.map(|text| text.len())), (WORDS * LONGEST_LINE, Ok(WORDS * line)));
     assert_eq!(allocated(|| list(&[])), (0, Ok(String::new())));
     assert_eq!(allocated(|| list(&ret[1..])), (0, Err(Refusal::ListingLength)));
     assert_eq!(allocated(|| list(&unreadable)), (0, Err(Refusal::OutsideForms)));
+    let few = &unreadable[..8];
+    assert_eq!(allocated(|| list(few)), (2 * LONGEST_LINE, Err(Refusal::OutsideForms)));
 
-    assert_eq!(allocated(|| list_into(&ret, &mut output)), (0, Ok(1_000 * line)));
-    for (block, room) in [(&ret[1..], 0), (&unreadable, 0), (&ret, 1_000 * line - 1)] {
+    assert_eq!(allocated(|| list_into(&ret, &mut output)), (0, Ok(WORDS * line)));
+    for (block, room) in [(&ret[1..], 0), (&unreadable, 0), (&ret, WORDS * line - 1)] {
         let (bytes, answer) = allocated(|| list_into(block, &mut output[..room]));
         assert!(bytes == 0 && answer.is_err(), "{bytes} {answer:?}");
     }
