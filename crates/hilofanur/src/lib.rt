@@ -160,10 +160,10 @@ pub extern "C" fn hilofanur_rv64_run(
 pub extern "C" fn hilofanur_list(block: &[u8], output: &mut [u8]) -> ListAnswer
     ensures { λ r. ⌜ Lists (now (block .entry)) (now (output .entry)) (Answers.listed r) (now (output .exit)) ⌝ }
 {
-    let a = listing::list(block, output);
+    let listed = listing::list(block, output);
     ListAnswer {
-        refusal: a.refusal,
-        length: a.length,
-        offset: a.offset,
+        refusal: listed.refusal,
+        length: listed.length,
+        offset: listed.offset,
     }
 }
