@@ -1,7 +1,8 @@
 /* Hilofanur: RV64 guest blocks in, A64 words out. For libhilofanur.a on x86-64.
  *
- * Each function answers by a struct. Its refusal is 0 where the call was accepted; else it is the lowest number that
- * applies, the answer's other numbers are 0, but for the offset beside 13, and every lent byte is as it was:
+ * Each function but hilofanur_index_empty answers by a struct. Its refusal is 0 where the call was accepted; else it is
+ * the lowest number that applies, the answer's other numbers are 0, but for the offset beside 13, and every lent byte is
+ * as it was:
  *
  *    1  slot offset not a multiple of 8 or above 32,512
  *    2  limit 0
@@ -17,6 +18,8 @@
  *   12  block length not a multiple of 4 or above 2^32
  *   13  a word outside the forms
  *   14  the output is shorter than the listing
+ *   15  the code's length is zero, not a multiple of 4 or beyond the store
+ *   16  no block under this key
  *
  * Bytes are lent by a pointer and their number, which is below 2^63. A pointer is never null, even where the number is
  * 0; it needs no alignment. Bytes that a call may write overlap no others that it is lent. No pointer is kept after the
@@ -55,6 +58,8 @@ extern "C" {
 #define HILOFANUR_STATE 264
 /* The bytes of the longest line of a listing. */
 #define HILOFANUR_LONGEST_LINE 45
+/* The bytes of an index. */
+#define HILOFANUR_INDEX_BYTES 45056
 
 struct hilofanur_translate_answer {
     uint32_t refusal;
@@ -136,6 +141,41 @@ struct hilofanur_list_answer {
  */
 struct hilofanur_list_answer hilofanur_list(
     const uint8_t *block, size_t block_length, uint8_t *output, size_t output_length);
+
+/* The index: up to 512 blocks by key, which is an address space number and a PC, in HILOFANUR_INDEX_BYTES bytes. A block
+ * has its start and length in the index's store, and its count of guest instructions.
+ *
+ * The caller makes an index empty before its first use, then hands it to the three calls below and to nothing else, and
+ * always with the same store, of the same length, which nothing but these calls changes. Then a lookup answers the block
+ * placed last under its key, unless that was dropped or the index emptied since, and the store holds that block's code.
+ * Whatever bytes the index holds, a call ends and touches no byte beyond those lent.
+ */
+
+/* Empties the index: no key has a block. */
+void hilofanur_index_empty(uint8_t *index);
+
+struct hilofanur_index_place_answer {
+    uint64_t refusal;
+    uint64_t start; /* where the code starts in the store */
+};
+
+/* Places code in the store, under a key: behind the block placed last, or at the store's front where the rest is too short
+ * or the index is empty. This is chosen first. Then are dropped the block under the same key, every block that shares a
+ * byte with the new one, and, if 512 are still left, the oldest; no other. Other bytes of the store stay. Refusal 15.
+ */
+struct hilofanur_index_place_answer hilofanur_index_place(
+    uint8_t *index, uint8_t *store, size_t store_length, uint64_t space, uint64_t pc, uint8_t count,
+    const uint8_t *code, size_t code_length);
+
+struct hilofanur_index_lookup_answer {
+    uint64_t refusal;
+    uint64_t start;  /* where its code starts in the store */
+    uint64_t length; /* the code's bytes */
+    uint64_t count;  /* as it was placed */
+};
+
+/* Looks up the block under a key. Refusal 16. */
+struct hilofanur_index_lookup_answer hilofanur_index_lookup(const uint8_t *index, uint64_t space, uint64_t pc);
 
 #ifdef __cplusplus
 }

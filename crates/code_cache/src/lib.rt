@@ -14,7 +14,7 @@ pub struct Placed {
 }
 
 // The bytes of `code` over those of `store` from `at` on.
-fn copy(store: &mut [u8], at: usize, code: &[u8])
+pub fn copy(store: &mut [u8], at: usize, code: &[u8])
     requires { ⌜ at + length (now code) ≤ length (now store) ⌝ }
     ensures { λ r. ⌜ now (store .exit) ≡ take at (now (store .entry)) ++ now (code .entry) ++ drop (at + length (now (code .entry))) (now (store .entry)) ⌝ }
 {

@@ -30,3 +30,7 @@ max-slot-offset = 8 * (4095 - 31)
 -- the most bytes of a line of a listing: `subs xzr, x30, x30, lsl #0` behind two numbers of eight digits
 abbrev pub longest-line : ℕ
 longest-line = 45
+
+-- the entries of an index (document 02, No. 2)
+abbrev pub index-entries : ℕ
+index-entries = 512

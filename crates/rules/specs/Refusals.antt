@@ -59,3 +59,11 @@ outside-forms = 13
 -- the output is shorter than the listing
 abbrev pub listing-short : ℕ
 listing-short = 14
+
+-- the code's length is zero, not a multiple of 4 or beyond the store
+abbrev pub code-length : ℕ
+code-length = 15
+
+-- no block under this key
+abbrev pub no-block : ℕ
+no-block = 16

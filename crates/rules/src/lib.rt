@@ -22,3 +22,6 @@ pub const MAX_SLOT_OFFSET: u64 = 8 * (4095 - 31);
 
 // The most bytes of a line of a listing.
 pub const LONGEST_LINE: usize = 45;
+
+// The entries of an index.
+pub const INDEX_ENTRIES: u64 = 512;

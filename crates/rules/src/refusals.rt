@@ -26,3 +26,7 @@ pub const LISTING_LENGTH: u32 = 12;
 pub const OUTSIDE_FORMS: u32 = 13;
 
 pub const LISTING_SHORT: u32 = 14;
+
+pub const CODE_LENGTH: u32 = 15;
+
+pub const NO_BLOCK: u32 = 16;

@@ -1,5 +1,6 @@
 //! Nanoseconds of the proved operations beside plain Rust on the same inputs, in one run.
 
+mod index;
 mod listing;
 mod place;
 mod runs;
@@ -50,4 +51,5 @@ fn main() {
     runs::rows();
     place::rows();
     listing::rows();
+    index::rows();
 }

@@ -2,18 +2,18 @@
 
 mod a64;
 mod blocks;
+mod index;
 mod listing;
 mod place;
 mod rv64;
+mod soak;
 mod translate;
 
 use draw::{Case, Random};
 use hilofanur::{Guest, Host};
 use std::time::{Duration, Instant};
 
-const USE: &str = "use: compare COUNT [SEED]";
-/// With at least so many cases every outcome must have been met.
-const ENOUGH: u64 = 10_000;
+const USE: &str = "use: compare [soak] COUNT [SEED]";
 /// How many differences are printed.
 const SHOWN: u64 = 10;
 
@@ -22,6 +22,8 @@ trait Compared {
     const NAME: &'static str;
     /// What can come of a case.
     const OUTCOMES: &'static [&'static str];
+    /// With at least so many cases every outcome must have been met.
+    const ENOUGH: u64 = 10_000;
     /// One case: its outcome, or what differs.
     fn compare(&mut self, random: &mut Random) -> Result<usize, String>;
 }
@@ -60,7 +62,7 @@ fn run<T: Compared + Default>(count: u64, seed: u64) -> bool {
     let outcomes: Vec<String> =
         T::OUTCOMES.iter().zip(&met).map(|(name, number)| format!("{name} {number}")).collect();
     println!("{}: {}", T::NAME, outcomes.join(", "));
-    let missed = count >= ENOUGH && met.contains(&0);
+    let missed = count >= T::ENOUGH && met.contains(&0);
     if missed {
         println!("{}: an outcome was never met", T::NAME);
     }
@@ -68,9 +70,24 @@ fn run<T: Compared + Default>(count: u64, seed: u64) -> bool {
     differences == 0 && !missed
 }
 
+/// Every row; true if nothing differs.
+fn rows(count: u64, seed: u64) -> bool {
+    let same = [
+        run::<translate::Translate>(count, seed),
+        run::<place::Place>(count, seed),
+        run::<rv64::Rv64>(count, seed),
+        run::<a64::A64>(count, seed),
+        run::<listing::Listing>(count, seed),
+        run::<index::Index>(count, seed),
+        run::<blocks::Blocks>(count, seed),
+    ];
+    !same.contains(&false)
+}
+
 fn main() {
-    let numbers: Option<Vec<u64>> =
-        std::env::args().skip(1).map(|argument| argument.parse().ok()).collect();
+    let mut arguments = std::env::args().skip(1).peekable();
+    let soaks = arguments.next_if(|argument| argument == "soak").is_some();
+    let numbers: Option<Vec<u64>> = arguments.map(|argument| argument.parse().ok()).collect();
     let (count, seed) = match numbers.as_deref() {
         Some([count]) => (*count, 1),
         Some([count, seed]) => (*count, *seed),
@@ -79,15 +96,8 @@ fn main() {
             std::process::exit(2)
         }
     };
-    let same = [
-        run::<translate::Translate>(count, seed),
-        run::<place::Place>(count, seed),
-        run::<rv64::Rv64>(count, seed),
-        run::<a64::A64>(count, seed),
-        run::<listing::Listing>(count, seed),
-        run::<blocks::Blocks>(count, seed),
-    ];
-    if same.contains(&false) {
+    let same = if soaks { soak::soak(count, seed) } else { rows(count, seed) };
+    if !same {
         std::process::exit(1)
     }
 }

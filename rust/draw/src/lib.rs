@@ -5,6 +5,7 @@ pub mod case;
 pub mod class;
 pub mod forms;
 pub mod guest;
+pub mod index;
 pub mod listing;
 pub mod marked;
 pub mod place;

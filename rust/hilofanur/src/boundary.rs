@@ -1,10 +1,10 @@
-//! The five functions as the library has them: numbers and byte slices in, an answer of numbers out.
+//! The functions as the library has them: numbers and byte slices in, an answer of numbers out.
 //!
 //! The crate's own functions stand on these. They are public for comparisons, which read every number of an answer.
 
 #![allow(unsafe_code)]
 
-use crate::{Guest, Host};
+use crate::{Guest, Host, Key, INDEX_BYTES};
 
 /// What `hilofanur_translate` answers.
 #[repr(C)]
@@ -68,6 +68,30 @@ pub struct ListAnswer {
     pub offset: u64,
 }
 
+/// What `hilofanur_index_place` answers.
+#[repr(C)]
+#[derive(Clone, Copy, Debug, Default, PartialEq, Eq)]
+pub struct IndexPlaceAnswer {
+    /// Document 02's number, 0 where accepted.
+    pub refusal: u64,
+    /// Where the code starts in the store.
+    pub start: u64,
+}
+
+/// What `hilofanur_index_lookup` answers.
+#[repr(C)]
+#[derive(Clone, Copy, Debug, Default, PartialEq, Eq)]
+pub struct IndexLookupAnswer {
+    /// Document 02's number, 0 where accepted.
+    pub refusal: u64,
+    /// Where the block's code starts in the store.
+    pub start: u64,
+    /// The code's bytes.
+    pub length: u64,
+    /// The count it was placed with, below 256.
+    pub count: u64,
+}
+
 // include/hilofanur.h has the same in C.
 extern "C" {
     fn hilofanur_translate(
@@ -114,6 +138,22 @@ extern "C" {
         output: *mut u8,
         output_length: usize,
     ) -> ListAnswer;
+    fn hilofanur_index_empty(index: *mut [u8; INDEX_BYTES]);
+    fn hilofanur_index_place(
+        index: *mut [u8; INDEX_BYTES],
+        store: *mut u8,
+        store_length: usize,
+        space: u64,
+        pc: u64,
+        count: u8,
+        code: *const u8,
+        code_length: usize,
+    ) -> IndexPlaceAnswer;
+    fn hilofanur_index_lookup(
+        index: *const [u8; INDEX_BYTES],
+        space: u64,
+        pc: u64,
+    ) -> IndexLookupAnswer;
 }
 
 /// Translate; `output` takes the block at its front.
@@ -186,4 +226,39 @@ pub fn a64_run(
 pub fn list(block: &[u8], output: &mut [u8]) -> ListAnswer {
     // SAFETY: as in `translate`.
     unsafe { hilofanur_list(block.as_ptr(), block.len(), output.as_mut_ptr(), output.len()) }
+}
+
+/// Index empty; `index` may hold anything before.
+pub fn index_empty(index: &mut [u8; INDEX_BYTES]) {
+    // SAFETY: as in `translate`; the index is lent for its bytes, of any alignment.
+    unsafe { hilofanur_index_empty(index) }
+}
+
+/// Index place; `store` takes the code.
+pub fn index_place(
+    index: &mut [u8; INDEX_BYTES],
+    store: &mut [u8],
+    key: Key,
+    count: u8,
+    code: &[u8],
+) -> IndexPlaceAnswer {
+    // SAFETY: as in `index_empty`; whatever the index holds.
+    unsafe {
+        hilofanur_index_place(
+            index,
+            store.as_mut_ptr(),
+            store.len(),
+            key.space,
+            key.pc,
+            count,
+            code.as_ptr(),
+            code.len(),
+        )
+    }
+}
+
+/// Index lookup.
+pub fn index_lookup(index: &[u8; INDEX_BYTES], key: Key) -> IndexLookupAnswer {
+    // SAFETY: as in `index_place`.
+    unsafe { hilofanur_index_lookup(index, key.space, key.pc) }
 }

@@ -1,7 +1,7 @@
 //! RV64 guest blocks in, A64 words out: the proved library behind a safe interface.
 //!
-//! Four of the five operations are document 01's, the listing is document 02's. Each is accepted, or refused by number with
-//! every lent byte unchanged.
+//! Translate, place and the two runs are document 01's, the listing and the index are document 02's. Each operation is
+//! accepted, or refused by number with every lent byte unchanged.
 //!
 //! ```
 //! use hilofanur::{a64_run, list, place, rv64_run, translate};
@@ -60,9 +60,11 @@
 #![warn(missing_docs)]
 
 pub mod boundary;
+mod index;
 mod refusal;
 mod state;
 
+pub use index::{Found, Index, Key};
 pub use refusal::{ListRefused, Refusal};
 pub use state::{A64State, End, Registers};
 
@@ -71,6 +73,9 @@ pub const LONGEST_BLOCK: usize = 4 * 1_862;
 
 /// The bytes of the longest line of a listing: of one whose text is `subs xzr, x30, x30, lsl #0`.
 pub const LONGEST_LINE: usize = 45;
+
+/// The bytes of an index.
+pub const INDEX_BYTES: usize = 45_056;
 
 /// The guest's code and how far a block may go.
 #[derive(Clone, Copy, Debug)]
@@ -225,6 +230,6 @@ pub fn list_into(block: &[u8], output: &mut [u8]) -> Result<usize, ListRefused> 
 fn accepted(number: u32) -> Result<(), Refusal> {
     match number {
         0 => Ok(()),
-        number => Err(Refusal::from_number(number).expect("the library refuses by 1 to 14")),
+        number => Err(Refusal::from_number(number).expect("the library refuses by 1 to 16")),
     }
 }

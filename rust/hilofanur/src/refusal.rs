@@ -43,13 +43,17 @@ pub enum Refusal {
     OutsideForms = 13,
     /// List: the output is shorter than the listing.
     ListingShort = 14,
+    /// Index: the code's length is zero, not a multiple of 4 or beyond the store.
+    CodeLength = 15,
+    /// Index: no block is under this key.
+    NoBlock = 16,
 }
 
 use Refusal::*;
 
 impl Refusal {
     /// Every refusal, by number.
-    pub const ALL: [Refusal; 14] = [
+    pub const ALL: [Refusal; 16] = [
         SlotOffset,
         LimitZero,
         OddPc,
@@ -64,9 +68,11 @@ impl Refusal {
         ListingLength,
         OutsideForms,
         ListingShort,
+        CodeLength,
+        NoBlock,
     ];
 
-    /// Its number, 1 to 14.
+    /// Its number, 1 to 16.
     pub fn number(self) -> u32 {
         self as u32
     }
@@ -95,6 +101,8 @@ impl Refusal {
             ListingLength => "block length not a multiple of 4 or above 2^32",
             OutsideForms => "a word outside the forms",
             ListingShort => "the output is shorter than the listing",
+            CodeLength => "the code's length is zero, not a multiple of 4 or beyond the store",
+            NoBlock => "no block under this key",
         }
     }
 }

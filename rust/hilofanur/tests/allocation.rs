@@ -1,6 +1,7 @@
 //! What the listing allocates: `list_into` nothing, `list` its text alone, and nothing where it refuses more than the longest block.
+//! What the index allocates: its bytes, and its calls nothing.
 
-use hilofanur::{list, list_into, Refusal, LONGEST_LINE};
+use hilofanur::{list, list_into, Found, Index, Key, Refusal, INDEX_BYTES, LONGEST_LINE};
 use std::alloc::{GlobalAlloc, Layout, System};
 use std::cell::Cell;
 
@@ -37,7 +38,7 @@ fn allocated<T>(run: impl FnOnce() -> T) -> (usize, T) {
 const WORDS: usize = 2_000;
 
 #[test]
-fn allocations() {
+fn listing() {
     let ret = 0xD65F_03C0_u32.to_le_bytes().repeat(WORDS);
     let mut unreadable = ret.clone();
     unreadable[4] = 0;
@@ -57,4 +58,25 @@ fn allocations() {
         let (bytes, answer) = allocated(|| list_into(block, &mut output[..room]));
         assert!(bytes == 0 && answer.is_err(), "{bytes} {answer:?}");
     }
+}
+
+/// More placings than the index has entries.
+#[test]
+fn index() {
+    let mut store = [0; 4_000];
+    let (bytes, mut index) = allocated(Index::new);
+    assert_eq!(bytes, INDEX_BYTES);
+    for pc in 0..2_000 {
+        let key = Key { space: 1, pc };
+        let (bytes, placed) = allocated(|| index.place(&mut store, key, 1, &[1; 4]));
+        let start = placed.unwrap();
+        assert_eq!(bytes, 0);
+        let found = Ok(Found { start, length: 4, count: 1 });
+        assert_eq!(allocated(|| index.lookup(key)), (0, found));
+    }
+    let key = Key { space: 0, pc: 0 };
+    assert_eq!(allocated(|| index.lookup(key)), (0, Err(Refusal::NoBlock)));
+    let refused = (0, Err(Refusal::CodeLength));
+    assert_eq!(allocated(|| index.place(&mut store, key, 1, &[1; 5])), refused);
+    assert_eq!(allocated(|| index.empty()), (0, ()));
 }

@@ -4,6 +4,7 @@
 #[path = "../examples/dispatcher/main.rs"]
 mod example;
 
+use hilofanur::Refusal;
 use std::path::{Path, PathBuf};
 use std::process::{Command, Output};
 
@@ -22,16 +23,75 @@ fn lines(output: &Output) -> Vec<String> {
     String::from_utf8_lossy(&output.stdout).lines().map(str::to_string).collect()
 }
 
-/// The same text as under qemu-riscv64, and no difference.
-#[test]
-fn centroid() {
-    let output = dispatcher(&[]);
+fn starting<'a>(lines: &'a [String], start: &str) -> Vec<&'a str> {
+    lines.iter().filter_map(|line| line.strip_prefix(start)).collect()
+}
+
+/// The decimal numbers of the one line that starts so.
+fn numbers(lines: &[String], start: &str) -> Vec<u64> {
+    let found = starting(lines, start);
+    assert_eq!(found.len(), 1, "{start}: {lines:?}");
+    let digits = found[0].split(|c: char| !c.is_ascii_digit());
+    digits.filter_map(|digits| digits.parse().ok()).collect()
+}
+
+/// The guest program: the same text as under qemu-riscv64, and no difference.
+fn centroid(arguments: &[&str]) -> Vec<String> {
+    let output = dispatcher(arguments);
     let lines = lines(&output);
-    let guest: Vec<&str> = lines.iter().filter_map(|line| line.strip_prefix("guest: ")).collect();
-    assert_eq!(guest, OUTPUT.lines().collect::<Vec<_>>());
-    assert!(lines.contains(&"differences: 0".to_string()), "{lines:?}");
+    assert_eq!(starting(&lines, "guest: "), OUTPUT.lines().collect::<Vec<_>>());
+    assert_eq!(starting(&lines, "differences: "), ["0"]);
     assert_eq!(lines.last().unwrap(), "exit status of the guest: 0");
     assert!(output.status.success());
+    lines
+}
+
+/// Bytes of the program's longest block, which is at 10252.
+const LONGEST: usize = 320;
+
+/// In a store that holds all blocks none is dropped. In a small one blocks are dropped and translated again, the smaller
+/// the more often, and what is run stays the same.
+#[test]
+fn stores() {
+    let whole = centroid(&[]);
+    let blocks = numbers(&whole, "blocks: ")[0];
+    let run = numbers(&whole, "run: ");
+    assert_eq!(numbers(&whole, "index: "), [blocks, run[0] - blocks, 0]);
+    for (store, least) in [(8_192, 10), (1_024, 1_000), (LONGEST, 5_000)] {
+        let lines = centroid(&["--store", &store.to_string()]);
+        assert_eq!(numbers(&lines, "run: "), run);
+        assert_eq!(numbers(&lines, "stops: "), numbers(&whole, "stops: "));
+        let [placed, found, dropped] = numbers(&lines, "index: ")[..] else { panic!("{lines:?}") };
+        assert_eq!((placed, placed + found), (numbers(&lines, "blocks: ")[0], run[0]), "{store}");
+        assert!(dropped >= least && placed >= blocks, "{store}: {dropped} dropped");
+        // Those that are kept have their room in the store; the shortest block has three words.
+        let kept = placed - dropped;
+        assert!(kept >= 1 && 12 * kept <= store as u64, "{store}: {kept} kept");
+    }
+}
+
+/// A store that is shorter than a block, and arguments that are no store.
+#[test]
+fn stores_that_do_not_do() {
+    let refused = |at| {
+        let text = Refusal::CodeLength.to_string();
+        format!("dispatcher: place at {at}: {text}\n")
+    };
+    let cases: [(&[&str], &str); 5] = [
+        (&["--store", "316"], &refused("10252")),
+        (&["--store", "0"], &refused("100e8")),
+        (&["--store"], "dispatcher: --store wants a number of bytes\n"),
+        (&["--store", "1k"], "dispatcher: 1k is no number of bytes up to 268435456\n"),
+        (
+            &["--store", "268435457"],
+            "dispatcher: 268435457 is no number of bytes up to 268435456\n",
+        ),
+    ];
+    for (arguments, error) in cases {
+        let output = dispatcher(arguments);
+        assert_eq!(String::from_utf8_lossy(&output.stderr), error);
+        assert_eq!(output.status.code(), Some(1), "{arguments:?}");
+    }
 }
 
 fn raw(name: &str, code: &[u32]) -> PathBuf {

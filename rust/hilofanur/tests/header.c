@@ -1,4 +1,4 @@
-/* The five functions from C. Prints document 01's row 5 as its program does, then a line for each of the others. */
+/* The functions from C. Prints document 01's row 5 as its program does, then a line for each of the others. */
 #include "hilofanur.h"
 
 #include <inttypes.h>
@@ -14,6 +14,46 @@ static struct hilofanur_translate_answer translate(uint64_t slot_offset, uint8_t
     static const uint8_t guest[] = {0x01, 0x00, 0x41, 0x9c};
     return hilofanur_translate(
         guest, sizeof guest, 0x1000, 2, false, slot_offset, 0x10000, 0x20000, 0x30000, output, length);
+}
+
+_Static_assert(sizeof(struct hilofanur_index_place_answer) == 2 * sizeof(uint64_t), "refusal, start");
+_Static_assert(sizeof(struct hilofanur_index_lookup_answer) == 4 * sizeof(uint64_t), "refusal, start, length, count");
+
+static void place(uint8_t *index, uint8_t *store, size_t length, uint64_t pc, const uint8_t *code, size_t code_length)
+{
+    struct hilofanur_index_place_answer placed =
+        hilofanur_index_place(index, store, length, UINT64_MAX, pc, 64, code, code_length);
+    printf("index place %" PRIu64 " %" PRIu64 "\n", placed.refusal, placed.start);
+}
+
+static void look_up(const uint8_t *index, uint64_t space, uint64_t pc)
+{
+    struct hilofanur_index_lookup_answer found = hilofanur_index_lookup(index, space, pc);
+    printf("index lookup %" PRIu64, found.refusal);
+    printf(" %" PRIu64 " %" PRIu64 " %" PRIu64 "\n", found.start, found.length, found.count);
+}
+
+/* Three blocks in a store of 16 bytes; the third is too long for the rest and drops the others. */
+static void use_index(void)
+{
+    static uint8_t index[HILOFANUR_INDEX_BYTES];
+    uint8_t store[16] = {0};
+    const uint8_t code[] = {1, 2, 3, 4, 5, 6, 7, 8, 9, 10, 11, 12};
+    hilofanur_index_empty(index);
+    look_up(index, UINT64_MAX, 0x1000);
+    place(index, store, sizeof store, 0x1000, code, 4);
+    place(index, store, sizeof store, 0x2000, code, 8);
+    place(index, store, sizeof store, 0x2000, code, 6);
+    look_up(index, UINT64_MAX, 0x1000);
+    look_up(index, UINT64_MAX, 0x2000);
+    look_up(index, 0x2000, UINT64_MAX);
+    printf("store %d %d %d\n", store[3], store[4], store[12]);
+    place(index, store, sizeof store, 0x3000, code, 12);
+    look_up(index, UINT64_MAX, 0x1000);
+    look_up(index, UINT64_MAX, 0x3000);
+    hilofanur_index_empty(index);
+    look_up(index, UINT64_MAX, 0x3000);
+    printf("index bytes %zu\n", sizeof index);
 }
 
 int main(void)
@@ -49,5 +89,6 @@ int main(void)
     listed = hilofanur_list(zeros, sizeof zeros, listing, 0);
     printf("refused %" PRIu64 " %d\n", listed.refusal, listed.offset == 0 || listed.offset == 4);
     printf("refused %" PRIu64 "\n", hilofanur_list(output, block.length, listing, length - 1).refusal);
+    use_index();
     return 0;
 }

@@ -1,6 +1,7 @@
 //! include/hilofanur.h from C: compiled by gcc without a warning, linked with the library, run.
 
 use draw::marked::PRINTED;
+use hilofanur::INDEX_BYTES;
 use std::path::Path;
 use std::process::Command;
 
@@ -17,6 +18,22 @@ refused 13 1
 refused 14
 ";
 
+/// Refusal, start, length and count of the index's answers.
+const INDEXED: &str = "\
+index lookup 16 0 0 0
+index place 0 0
+index place 0 4
+index place 15 0
+index lookup 0 0 4 64
+index lookup 0 4 8 64
+index lookup 16 0 0 0
+store 4 1 0
+index place 0 0
+index lookup 16 0 0 0
+index lookup 0 0 12 64
+index lookup 16 0 0 0
+";
+
 #[test]
 fn from_c() {
     let here = Path::new(env!("CARGO_MANIFEST_DIR"));
@@ -31,6 +48,8 @@ fn from_c() {
     assert!(compiled.status.success(), "{}", String::from_utf8_lossy(&compiled.stderr));
     let ran = Command::new(&program).output().unwrap();
     let others = "refused 1\nrefused 6\nplaced 8 28\nran 1 1002 ff\nend 1 5 1002\n";
-    assert_eq!(String::from_utf8_lossy(&ran.stdout), [PRINTED, others, LISTED].concat());
+    let bytes = format!("index bytes {INDEX_BYTES}\n");
+    let expected = [PRINTED, others, LISTED, INDEXED, &bytes].concat();
+    assert_eq!(String::from_utf8_lossy(&ran.stdout), expected);
     assert!(ran.status.success());
 }

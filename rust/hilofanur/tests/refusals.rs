@@ -4,9 +4,10 @@
 use draw::forms::is_a64;
 use draw::words;
 use hilofanur::boundary::{self, A64RunAnswer, ListAnswer, PlaceAnswer};
-use hilofanur::boundary::{Rv64RunAnswer, TranslateAnswer};
+use hilofanur::boundary::{IndexLookupAnswer, IndexPlaceAnswer, Rv64RunAnswer, TranslateAnswer};
 use hilofanur::{a64_run, list, list_into, place, rv64_run, translate};
-use hilofanur::{A64State, End, Guest, Host, ListRefused, Placed, Refusal, Registers};
+use hilofanur::{A64State, End, Guest, Host, Index, Key, ListRefused, Placed, Refusal, Registers};
+use hilofanur::{Found, INDEX_BYTES};
 
 const HOST: Host =
     Host { slot_offset: 0, memory_helper: 0x10000, helper32: 0x20000, helper16: 0x30000 };
@@ -222,6 +223,85 @@ fn list_accepts_the_edges() {
     assert_eq!((list(&[]).as_deref(), list(&block).as_deref()), (Ok(""), Ok(text)));
 }
 
+const KEY: Key = Key { space: 3, pc: 0x1000 };
+
+/// Length `length` is refused by 15 in a store of `size`, by an index that is empty and by one with blocks; what is lent stays.
+fn refuse_index_place(size: usize, length: usize) {
+    let code = vec![1; length];
+    let mut store = vec![FILL; size];
+    let (mut index, mut bytes) = (Index::new(), [FILL; INDEX_BYTES]);
+    boundary::index_empty(&mut bytes);
+    for pc in [1, 2, 3] {
+        let before = (bytes, store.clone());
+        let answer = boundary::index_place(&mut bytes, &mut store, KEY, 9, &code);
+        assert_eq!(answer, IndexPlaceAnswer { refusal: 15, start: 0 }, "{size} {length}");
+        assert!((bytes, &store) == (before.0, &before.1), "{size} {length}");
+        assert_eq!(index.place(&mut store, KEY, 9, &code), Err(Refusal::CodeLength));
+        assert_eq!((index.lookup(KEY), &store), (Err(Refusal::NoBlock), &before.1));
+        // A block more, where there is room for it.
+        let other = Key { pc, ..KEY };
+        boundary::index_place(&mut bytes, &mut store, other, 1, &[2; 4]);
+        assert_eq!(index.place(&mut store, other, 1, &[2; 4]).is_ok(), size >= 4);
+    }
+}
+
+#[test]
+fn index_place_by_number() {
+    for size in [0, 1, 3, 4, 7, 8, 9, 64, 4_096] {
+        // Zero, not a multiple of 4, and beyond the store, also with both.
+        let beyond = (size / 4 + 1) * 4;
+        for length in [0, 1, 2, 3, 5, 6, 7, 63, beyond, beyond + 2, beyond + 4, beyond + 4_096] {
+            refuse_index_place(size, length);
+        }
+    }
+}
+
+#[test]
+fn index_place_accepts_the_edges() {
+    for (size, length) in [(4, 4), (5, 4), (7, 4), (8, 8), (64, 64), (66, 64), (8_192, 8_192)] {
+        let (mut index, mut store) = (Index::new(), vec![FILL; size]);
+        assert_eq!(index.place(&mut store, KEY, 9, &vec![1; length]), Ok(0), "{size} {length}");
+        assert_eq!(index.lookup(KEY), Ok(Found { start: 0, length, count: 9 }));
+        let (written, rest) = store.split_at(length);
+        assert_eq!((written, rest), (&vec![1; length][..], &vec![FILL; size - length][..]));
+    }
+}
+
+fn refuse_lookup(bytes: &[u8; INDEX_BYTES], key: Key) {
+    let answer = boundary::index_lookup(bytes, key);
+    assert_eq!(
+        answer,
+        IndexLookupAnswer { refusal: 16, start: 0, length: 0, count: 0 },
+        "{key:x?}"
+    );
+}
+
+#[test]
+fn index_lookup_by_number() {
+    let others =
+        [Key { space: 3, pc: 0x1001 }, Key { space: 4, pc: 0x1000 }, Key { space: 0, pc: 0 }];
+    let mut store = [FILL; 16];
+    let (mut index, mut bytes) = (Index::new(), [FILL; INDEX_BYTES]);
+    boundary::index_empty(&mut bytes);
+    refuse_lookup(&bytes, KEY);
+    assert_eq!(index.lookup(KEY), Err(Refusal::NoBlock));
+
+    boundary::index_place(&mut bytes, &mut store, KEY, 9, &[1; 8]);
+    index.place(&mut store, KEY, 9, &[1; 8]).unwrap();
+    let found = IndexLookupAnswer { refusal: 0, start: 0, length: 8, count: 9 };
+    assert_eq!(boundary::index_lookup(&bytes, KEY), found);
+    assert_eq!(index.lookup(KEY), Ok(Found { start: 0, length: 8, count: 9 }));
+    for key in others {
+        refuse_lookup(&bytes, key);
+        assert_eq!(index.lookup(key), Err(Refusal::NoBlock));
+    }
+
+    boundary::index_empty(&mut bytes);
+    index.empty();
+    refuse_lookup(&bytes, KEY);
+    assert_eq!(index.lookup(KEY), Err(Refusal::NoBlock));
+}
+
 #[test]
 fn numbers_and_words() {
     for (refusal, number) in Refusal::ALL.into_iter().zip(1..) {
@@ -233,7 +313,7 @@ fn numbers_and_words() {
     for (end, number) in End::ALL.into_iter().zip(1..) {
         assert_eq!((end.number(), End::from_number(number)), (number, Some(end)));
     }
-    assert_eq!((Refusal::from_number(0), Refusal::from_number(15)), (None, None));
+    assert_eq!((Refusal::from_number(0), Refusal::from_number(17)), (None, None));
     assert_eq!((End::from_number(0), End::from_number(7)), (None, None));
     let refused = list_into(&[0; 4], &mut []).unwrap_err();
     assert_eq!(refused.to_string(), "refused 13: a word outside the forms, at byte 0");

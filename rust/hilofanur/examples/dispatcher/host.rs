@@ -3,7 +3,7 @@
 use super::code::HOST;
 use super::memory::Access;
 use draw::Random;
-use hilofanur::{a64_run, rv64_run, A64Run, A64State, Block, End, Guest, Refusal, Registers};
+use hilofanur::{a64_run, rv64_run, A64Run, A64State, End, Guest, Refusal, Registers};
 use std::ops::Range;
 
 const BASE: u64 = 0x7FFF_0000_0000;
@@ -26,7 +26,8 @@ pub struct HostSide {
 pub struct Done {
     pub registers: Registers,
     pub pc: u64,
-    pub instructions: u32,
+    /// It called a helper, for the instruction at `pc`.
+    pub called: bool,
     pub steps: u64,
     pub differences: Vec<String>,
 }
@@ -34,7 +35,8 @@ pub struct Done {
 /// A block that is run, and the state around it.
 struct Run<'a> {
     guest: &'a Guest<'a>,
-    block: Block,
+    /// The block's count.
+    instructions: u32,
     before: (A64State, [u8; SIZE]),
     after: (A64State, [u8; SIZE]),
     ended: A64Run,
@@ -62,7 +64,7 @@ impl HostSide {
     pub fn run(
         &mut self,
         guest: &Guest,
-        block: Block,
+        instructions: u32,
         (words, address): (&[u8], u64),
         registers: &Registers,
     ) -> Result<Done, String> {
@@ -76,15 +78,15 @@ impl HostSide {
         // Before a helper instruction the RV64 run stops; as the first it is refused.
         let (count, next_pc) = match rv64_run(guest, &mut registers) {
             Ok(run) => (run.count, run.next_pc),
-            Err(Refusal::NotCovered) if block.helper && block.count == 1 => (0, guest.pc),
+            Err(Refusal::NotCovered) => (0, guest.pc),
             Err(refusal) => return Err(format!("RV64 run at {:x}: {refusal}", guest.pc)),
         };
         let after = (state, self.memory);
-        let run = Run { guest, block, before, after, ended, registers, next_pc, count };
+        let run = Run { guest, instructions, before, after, ended, registers, next_pc, count };
         Ok(Done {
             registers: run.slots(),
             pc: run.pc(),
-            instructions: block.count,
+            called: run.called(),
             steps: ended.steps,
             differences: run.differences(budget, address),
         })
@@ -92,6 +94,11 @@ impl HostSide {
 }
 
 impl Run<'_> {
+    /// A helper ended the block: the words called it.
+    fn called(&self) -> bool {
+        self.ended.end == End::Called
+    }
+
     /// The registers that the words left.
     fn slots(&self) -> Registers {
         Registers::from_bytes(self.after.1[SLOTS].first_chunk().unwrap())
@@ -100,7 +107,7 @@ impl Run<'_> {
     /// The PC that the words left: in X0, or the last argument of a call.
     fn pc(&self) -> u64 {
         let x = &self.after.0.x;
-        match self.block.helper {
+        match self.called() {
             false => x[0],
             true if x[16] == HOST.memory_helper => x[7],
             true => x[6],
@@ -119,16 +126,15 @@ impl Run<'_> {
         same("registers", self.slots() == self.registers);
         same("other memory", self.other_memory());
         same("X18 to X29", state.x[18..30] == entry.x[18..30]);
-        if self.block.helper {
-            same("end", self.ended.end == End::Called);
-            same("count", self.count + 1 == self.block.count);
+        if self.called() {
+            same("count", self.count + 1 == self.instructions);
             same("SP", state.sp == SP - 16);
             same("saved X30", self.after.1[LINK] == entry.x[30].to_le_bytes());
             same("X30", state.x[30] == address.wrapping_add(4 * self.ended.steps));
-            same("helper's arguments", self.called() == self.expected_call());
+            same("helper's arguments", self.call() == self.expected_call());
         } else {
             same("end", self.ended == A64Run { end: End::Returned, steps: words });
-            same("count", (state.x[1], self.count) == (self.block.count.into(), self.block.count));
+            same("count", self.count == self.instructions && state.x[1] == u64::from(self.count));
             same("next PC", state.x[0] == self.next_pc);
             same("SP", state.sp == SP);
             same("X2 to X8, X30", state.x[2..9] == entry.x[2..9] && state.x[30] == entry.x[30]);
@@ -140,12 +146,12 @@ impl Run<'_> {
     fn other_memory(&self) -> bool {
         let (before, after) = (&self.before.1, &self.after.1);
         (0..SIZE)
-            .filter(|at| !(SLOTS.contains(at) || self.block.helper && LINK.contains(at)))
+            .filter(|at| !(SLOTS.contains(at) || self.called() && LINK.contains(at)))
             .all(|at| before[at] == after[at])
     }
 
     /// The helper's address and its eight argument registers, of which an instruction helper takes seven.
-    fn called(&self) -> [u64; 9] {
+    fn call(&self) -> [u64; 9] {
         let x = &self.after.0.x;
         let eighth = if x[16] == HOST.memory_helper { x[7] } else { 0 };
         [x[16], x[0], x[1], x[2], x[3], x[4], x[5], x[6], eighth]
@@ -197,7 +203,7 @@ mod tests {
         }
         let registers = Registers { x: std::array::from_fn(|n| 8 * n as u64) };
         let words = (&output[..block.length], ADDRESS);
-        let done = HostSide::new().run(&guest, block, words, &registers).unwrap();
+        let done = HostSide::new().run(&guest, block.count, words, &registers).unwrap();
         done.differences.iter().map(|text| text.replace("block at 1000: ", "")).collect()
     }
 
@@ -217,6 +223,8 @@ mod tests {
         assert_eq!(found(&[(5, 0xD280_0008)]), "next PC, X2 to X8, X30");
         assert_eq!(found(&[(5, 0x9100_43FF)]), "next PC, SP");
         assert_eq!(found(&[(6, 0xD65F_03C0)]), "end, count");
+        // BLR X16 in place of RET
+        assert_eq!(found(&[(7, 0xD63F_0200)]), "count, SP, saved X30, helper's arguments");
     }
 
     /// C.NOP and c.lw a0, 4(a1): five moves, instruction, PC, three words of the helper's address, the call.
@@ -228,11 +236,13 @@ mod tests {
         assert_eq!(found(&[(5, 0xD288_3925)]), "helper's arguments");
         assert_eq!(found(&[(6, 0xD282_0006)]), "helper's arguments");
         assert_eq!(found(&[(7, 0xD280_0010)]), "helper's arguments");
-        // SUB SP by 32; STR X30, [SP, #8]; BLR before STR; RET
+        // SUB SP by 32; STR X30, [SP, #8]; BLR before STR
         assert_eq!(found(&[(10, 0xD100_83FF)]), "other memory, SP, saved X30");
         assert_eq!(found(&[(11, 0xF900_07FE)]), "other memory, saved X30");
         assert_eq!(found(&[(11, 0xD63F_0200)]), "saved X30");
-        assert_eq!(found(&[(12, 0xD65F_03C0)]), "end, X30");
+        // RET in place of the call
+        let returned = "other memory, end, count, next PC, SP, X2 to X8, X30";
+        assert_eq!(found(&[(12, 0xD65F_03C0)]), returned);
     }
 
     /// ld a0, -8(a1): six words of the address, then the arguments.

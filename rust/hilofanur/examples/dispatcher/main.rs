@@ -1,10 +1,12 @@
 //! A dispatcher: runs an RV64 program block by block, as A64 words and beside them as the ISA says, and compares.
 //!
-//! `dispatcher [FILE [ENTRY [BASE]]]`: an ELF64 file, or a raw binary that goes to BASE; numbers in hexadecimal.
-//! Without a file it takes examples/centroid/centroid.
+//! `dispatcher [--store BYTES] [FILE [ENTRY [BASE]]]`: an ELF64 file, or a raw binary that goes to BASE; ENTRY and BASE in
+//! hexadecimal. Without a file it takes examples/centroid/centroid.
 //!
 //! A block is translated, placed and then run by the library's A64 run, which stands in for the Arm processor. The first
 //! one's words are listed.
+//! The library's index keeps the blocks, in a store of BYTES, without it 1 MiB; where that is full, new blocks take the place
+//! of old ones, which are translated again when their turn comes.
 //! A block that ends in a helper instruction runs up to its call; the dispatcher compares the call's arguments,
 //! does the load or store itself and goes on at the next PC with a new block, so the words behind the call stay unused.
 //! ECALL ends a block too: `write` (64) is served, `exit` (93) ends the program, and so does EBREAK.
@@ -25,6 +27,9 @@ use std::process::ExitCode;
 const CENTROID: &str = concat!(env!("CARGO_MANIFEST_DIR"), "/examples/centroid/centroid");
 /// Where a raw binary goes.
 const RAW: u64 = 0x1_0000;
+/// The store's bytes, and the most that it may have.
+const STORE: usize = 1 << 20;
+const MOST: usize = 1 << 28;
 const LIMIT: u32 = 64;
 /// Bytes of 64 instructions.
 const WINDOW: usize = 256;
@@ -64,14 +69,14 @@ enum Flow {
 }
 
 impl Dispatcher {
-    fn new(image: Image) -> Dispatcher {
+    fn new(image: Image, store: usize) -> Dispatcher {
         let mut registers = Registers::default();
         registers.x[2] = (image.memory.base + image.memory.bytes.len() as u64 - 16) & !15;
         Dispatcher {
             memory: image.memory,
             registers,
             pc: image.entry,
-            code: Code::new(),
+            code: Code::new(store),
             host: HostSide::new(),
             counts: Counts::default(),
         }
@@ -82,30 +87,41 @@ impl Dispatcher {
         loop {
             let bytes = self.memory.from(self.pc, WINDOW).to_vec();
             let guest = Guest { bytes: &bytes, pc: self.pc, limit: LIMIT, ignore_ebreak: false };
-            let translated = self.code.translated;
             match self.code.block(&guest) {
-                Ok((start, block)) => {
-                    let words = self.code.words(start, block.length);
-                    if self.code.translated > translated && translated < LINES {
-                        print_block(self.pc, &block);
-                    }
-                    if translated == 0 {
-                        print_listing(words.0)?;
-                    }
-                    let done = self.host.run(&guest, block, words, &self.registers)?;
-                    self.take(&guest, block.helper, done)?;
+                Ok((found, new)) => {
+                    let words = self.code.words(found);
+                    self.tell(new, words.0)?;
+                    let count = u32::from(found.count);
+                    let done = self.host.run(&guest, count, words, &self.registers)?;
+                    self.take(&guest, count, done)?;
                 }
                 Err(Refusal::NotCovered) => match self.system(instruction(&guest, self.pc))? {
                     Flow::Next => self.pc = self.pc.wrapping_add(4),
                     Flow::Ended(status) => return Ok(status),
                 },
+                Err(refusal @ Refusal::CodeLength) => {
+                    return Err(format!("place at {:x}: {refusal}", self.pc));
+                }
                 Err(refusal) => return Err(format!("translate at {:x}: {refusal}", self.pc)),
             }
         }
     }
 
+    /// A line for each of the first blocks that are translated, and the listing of the very first.
+    fn tell(&self, new: Option<Block>, words: &[u8]) -> Result<(), String> {
+        if let Some(block) = new {
+            if self.code.translated <= LINES {
+                print_block(self.pc, &block);
+            }
+            if self.code.translated == 1 {
+                print_listing(words)?;
+            }
+        }
+        Ok(())
+    }
+
     /// Takes over what a block did, and does the helper's instruction behind it.
-    fn take(&mut self, guest: &Guest, helper: bool, done: Done) -> Result<(), String> {
+    fn take(&mut self, guest: &Guest, count: u32, done: Done) -> Result<(), String> {
         self.registers = done.registers;
         self.pc = done.pc;
         for difference in &done.differences {
@@ -113,14 +129,14 @@ impl Dispatcher {
         }
         let counts = &mut self.counts;
         counts.runs += 1;
-        counts.instructions += u64::from(done.instructions);
+        counts.instructions += u64::from(count);
         counts.words += done.steps;
         counts.differences += done.differences.len() as u64;
         if counts.runs.is_multiple_of(OFTEN) {
             let Counts { runs, instructions, differences, .. } = counts;
             println!("  {runs} blocks run, {instructions} instructions, {differences} differences");
         }
-        if helper {
+        if done.called {
             return self.serve(instruction(guest, self.pc));
         }
         counts.returned += 1;
@@ -162,7 +178,9 @@ impl Dispatcher {
         let Counts { runs, instructions, words, returned, loads, stores, ecalls, differences } =
             self.counts;
         let called = loads + stores;
-        println!("blocks: {} translated into {} words", self.code.translated, self.code.words);
+        let Code { translated, placed, found, .. } = self.code;
+        println!("blocks: {translated} translated into {} words", self.code.words);
+        println!("index: {placed} placed, {found} found, {} dropped", self.code.dropped());
         println!("run: {runs} blocks, {instructions} guest instructions, {words} A64 words");
         println!(
             "stops: {returned} returned, {called} called ({loads} loads, {stores} stores), {ecalls} ecall"
@@ -189,14 +207,24 @@ fn hexadecimal(text: &str) -> Result<u64, String> {
     u64::from_str_radix(digits, 16).map_err(|_| format!("{text} is no hexadecimal number"))
 }
 
+fn store_bytes(text: Option<&String>) -> Result<usize, String> {
+    let text = text.ok_or("--store wants a number of bytes")?;
+    let bytes = text.parse().ok().filter(|&bytes| bytes <= MOST);
+    bytes.ok_or(format!("{text} is no number of bytes up to {MOST}"))
+}
+
 /// True if the program ended with status 0 and nothing differed.
 fn dispatch(arguments: &[String]) -> Result<bool, String> {
-    let mut arguments = arguments.iter();
+    let mut arguments = arguments.iter().peekable();
+    let store = match arguments.next_if(|text| *text == "--store") {
+        Some(_) => store_bytes(arguments.next())?,
+        None => STORE,
+    };
     let path = arguments.next().map_or(CENTROID, String::as_str);
     let entry = arguments.next().map(|text| hexadecimal(text)).transpose()?;
     let base = arguments.next().map_or(Ok(RAW), |text| hexadecimal(text))?;
     let file = std::fs::read(path).map_err(|error| format!("{path}: {error}"))?;
-    let mut dispatcher = Dispatcher::new(Image::load(&file, entry, base)?);
+    let mut dispatcher = Dispatcher::new(Image::load(&file, entry, base)?, store);
     let name = Path::new(path).file_name().unwrap_or_default().to_string_lossy();
     println!("{name}, entry {:x}", dispatcher.pc);
     let ended = dispatcher.run();

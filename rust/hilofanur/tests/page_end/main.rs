@@ -1,7 +1,9 @@
-//! Recorded answers, and listings, through the library, every lent slice between inaccessible pages: a byte too far faults.
+//! Recorded answers, listings and the index through the library, every lent slice between inaccessible pages: a byte too
+//! far faults.
 //! Slices that are lent to be read only stand in pages that cannot be written.
 
 mod guard;
+mod index;
 
 use guard::{Edge, Guarded};
 use hilofanur::boundary::{a64_run, list, place, rv64_run, translate};

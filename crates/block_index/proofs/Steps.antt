@@ -1,0 +1,144 @@
+-- A step of each loop of the definitions. Assumes nothing.
+use Prim.Native.Nat.{ℕ, zero, suc, _+_, _-_, _%_, _≤_, _<_}
+use mathlib.Core.Path.{_≡_, refl, sym, ap, _∙_}
+use mathlib.Core.Bool.{Bool, true, false, not, _||_}
+use mathlib.Core.List.{List}
+use mathlib.Core.Logic.{_⊎_, inl, inr}
+use native.Mathlib.Nat.{eq-or-lt-of-le}
+use native.Mathlib.Omega.{arith}
+use lib.Dec.{eqb, ltb}
+use lib.ListN.{length}
+use borrow.Author.Tests.{eq-eqb, ne-eqb, lt-ltb, le-ltb, ltb-false}
+use Rattle.block_log.specs.declared.Entry.{Entry}
+use Rattle.block_log.specs.Log.{places, bucket, cell, used, start-at, length-at, next-at, count-at}
+use Rattle.block_index.specs.Index.{key-at, block-at, walk, place-of, found-at, lookup, start-for, overlap-at, goes, swept-at, room-at, swept, refilled-at, refilled, result, placed-at, place}
+use Rattle.block_index.specs.Model as Model
+use Rattle.block_index.specs.declared.Found.{Found}
+
+-- ---- the walk along a chain
+
+module _ (m : List ℕ) (space pc : ℕ) where
+  walk-high : (k p : ℕ) → k < p → walk m space pc k p ≡ 0
+  unfolding walk
+  walk-high zero p h = refl
+  walk-high (suc k) p h = rw (ne-eqb p (suc k) (λ e. omega arith)) (walk-high k p (omega arith))
+
+  down : (k p : ℕ) → (p ≤ k → walk m space pc k p ≡ walk m space pc p p) → (p ≡ suc k) ⊎ (p < suc k)
+      → walk m space pc (suc k) p ≡ walk m space pc p p
+  unfolding walk
+  down k p again (inl e) = rw e
+  down k p again (inr h) = rw (ne-eqb p (suc k) (λ e. omega arith)) (again (omega arith))
+
+  -- places above that from which the chain goes on are passed over
+  pub walk-down : (k p : ℕ) → p ≤ k → walk m space pc k p ≡ walk m space pc p p
+  walk-down zero p h = let e : p ≡ 0 = omega arith in rw e
+  walk-down (suc k) p h = down k p (walk-down k p) (eq-or-lt-of-le h)
+
+  pub walk-start : (b p : ℕ) → b ≡ bucket space pc → p ≡ cell m b → p < places → walk m space pc p p ≡ place-of m space pc
+  walk-start b p eb ep h = rw (← eb, ← ep) (sym (walk-down 1023 p (omega arith)))
+
+  pub walk-none : (p r : ℕ) → p ≡ 0 → walk m space pc p p ≡ r → 0 ≡ r
+  unfolding walk
+  walk-none p r e h = rw e at h
+
+  pub walk-hit : (p : ℕ) → (p ≡ 0 → ⊥) → block-at m space pc p ≡ true → walk m space pc p p ≡ p
+  unfolding walk
+  walk-hit zero h e = refl
+  walk-hit (suc k) h e = rw (eq-eqb (suc k) (suc k) refl, e)
+
+  pub walk-on : (p : ℕ) → (p ≡ 0 → ⊥) → block-at m space pc p ≡ false → next-at m p < p
+      → walk m space pc p p ≡ walk m space pc (next-at m p) (next-at m p)
+  unfolding walk
+  walk-on zero h e l = absurd (h refl)
+  walk-on (suc k) h e l = rw (eq-eqb (suc k) (suc k) refl, e) (walk-down k (next-at m (suc k)) (omega arith))
+
+  pub walk-end : (p : ℕ) → (p ≡ 0 → ⊥) → block-at m space pc p ≡ false → p ≤ next-at m p → walk m space pc p p ≡ 0
+  unfolding walk
+  walk-end zero h e l = refl
+  walk-end (suc k) h e l = rw (eq-eqb (suc k) (suc k) refl, e) (walk-high k (next-at m (suc k)) (omega arith))
+
+found-zero : (m : List ℕ) (p : ℕ) → p ≡ 0 → Model.no-block ≡ found-at m p
+found-zero m p z = rw (eq-eqb p 0 z)
+
+found-place : (m : List ℕ) (p : ℕ) → (p ≡ 0 → ⊥)
+    → _≡_ {A = Found} (record { refusal = 0; start = start-at m p; length = length-at m p; count = count-at m p }) (found-at m p)
+found-place m p h = rw (ne-eqb p 0 h)
+
+module _ (m : List ℕ) (space pc p : ℕ) (e : p ≡ place-of m space pc) where
+  pub found-none : p ≡ 0 → Model.no-block ≡ lookup m space pc
+  unfolding lookup
+  found-none z = found-zero m p z ∙ ap (λ (q : ℕ). found-at m q) e
+
+  pub found-some : (p ≡ 0 → ⊥)
+      → _≡_ {A = Found} (record { refusal = 0; start = start-at m p; length = length-at m p; count = count-at m p }) (lookup m space pc)
+  unfolding lookup
+  found-some h = found-place m p h ∙ ap (λ (q : ℕ). found-at m q) e
+
+-- ---- refusal 15
+
+too-long : (a b c : Bool) → (a || (b || c)) ≡ false → c ≡ false
+too-long true b c h = cc
+too-long false true c h = cc
+too-long false false c h = h
+
+pub fits : (size n : ℕ) → Model.refused size n ≡ false → n ≤ size
+fits size n h = ltb-false size n (too-long (eqb n 0) (not (eqb (n % 4) 0)) (ltb size n) h)
+
+module _ (m store : List ℕ) (space pc count : ℕ) (code : List ℕ) where
+  pub place-refused : Model.refused (length store) (length code) ≡ true
+      → result (record { refusal = 15; start = 0 }) m store ≡ place m store space pc count code
+  unfolding place
+  place-refused h = rw h
+
+  pub place-accepted : (at : ℕ) → Model.refused (length store) (length code) ≡ false → at ≡ start-for m (length store) (length code)
+      → placed-at m store space pc count code at ≡ place m store space pc count code
+  unfolding place
+  place-accepted at h e = rw (h, ← e)
+
+-- ---- where a block goes
+
+module _ (m : List ℕ) (size n u s l : ℕ) (eu : u ≡ used m) (es : s ≡ start-at m u) (el : l ≡ length-at m u) where
+  pub start-none : u ≡ 0 → 0 ≡ start-for m size n
+  start-none h = rw (← eu, eq-eqb u 0 h)
+
+  pub start-front : (u ≡ 0 → ⊥) → size < s + l + n → 0 ≡ start-for m size n
+  start-front h k = rw (← eu, ← es, ← el, ne-eqb u 0 h, lt-ltb size (s + l + n) k)
+
+  pub start-behind : (u ≡ 0 → ⊥) → s + l + n ≤ size → s + l ≡ start-for m size n
+  start-behind h k = rw (← eu, ← es, ← el, ne-eqb u 0 h, le-ltb size (s + l + n) k)
+
+-- ---- the sweep
+
+some : (l : ℕ) → not (eqb l 0) ≡ ltb 0 l
+some zero = refl
+some (suc l) = rw (ne-eqb (suc l) 0 (λ e. omega arith), lt-ltb 0 (suc l) (omega arith))
+
+-- a block that starts behind the new one's start
+pub overlap-inside : (m : List ℕ) (start end p s l : ℕ) → s ≡ start-at m p → l ≡ length-at m p → start < s → s < end
+    → not (eqb l 0) ≡ overlap-at m start end p
+overlap-inside m start end p s l es el h k = let z : start - s ≡ 0 = omega arith in rw (← es, ← el, lt-ltb s end k, z) (some l)
+
+-- a block that stays has room
+either : (a b : Bool) (room : ℕ) → (a || (b || eqb room 0)) ≡ false → 0 < room
+either true b room h = let z : _≡_ {A = ℕ} 0 1 = cc in omega arith
+either false true room h = let z : _≡_ {A = ℕ} 0 1 = cc in omega arith
+either false false zero h = let z : _≡_ {A = ℕ} 0 1 = cc in omega arith
+either false false (suc room) h = omega arith
+
+pub stays-room : (m : List ℕ) (e : Entry) (room p : ℕ) → goes m e room p ≡ false → 0 < room
+stays-room m e room p h = either (key-at m (e .space) (e .pc) p) (overlap-at m (e .start) (e .start + e .length) p) room h
+
+pub swept-step : (m : List ℕ) (e : Entry) (room p : ℕ) → (p ≡ 0 → ⊥)
+    → swept m e room p ≡ swept (swept-at m e room p) e (room-at m e room p) (p - 1)
+unfolding swept
+swept-step m e room zero h = absurd (h refl)
+swept-step m e room (suc k) h = let z : suc k - 1 ≡ k = omega arith in rw z
+
+-- ---- the refill
+
+pub refilled-step : (m : List ℕ) (n p : ℕ) → p ≤ n → refilled m (n + 1 - p) p ≡ refilled (refilled-at m p) (n + 1 - (p + 1)) (p + 1)
+unfolding refilled
+refilled-step m n p h =
+    let a : n + 1 - p ≡ suc (n - p) = omega arith in
+    let b : n + 1 - (p + 1) ≡ n - p = omega arith in
+    rw (a, b)

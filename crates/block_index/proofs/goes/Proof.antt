@@ -1,0 +1,23 @@
+use borrow.Author.Needs.{needs}
+use Rattle.block_index.proofs.goes.Statement.{statement}
+use Rattle.block_index.proofs.goes.Tie as tie
+
+returns : tie.Need-returns
+returns c = rw (← c .before .key-at .ensures, c .if1 .taken)
+
+returns-2 : tie.Need-returns-2
+returns-2 c = rw (← c .before .before .before .before .key-at .ensures, c .before .before .before .if1 .left, ← c .before .overlap-at .ensures, c .if2 .taken)
+
+returns-3 : tie.Need-returns-3
+returns-3 c = rw (← c .before .before .before .before .key-at .ensures, c .before .before .before .if1 .left, ← c .before .overlap-at .ensures, c .if2 .left)
+
+pub goes-spec : {M : Type 1} → statement M
+goes-spec =
+    tie.close
+    (tie.spec
+    (λ c κs. search needs)
+    returns
+    (λ c. search needs)
+    (λ c κs. search needs)
+    returns-2
+    returns-3)

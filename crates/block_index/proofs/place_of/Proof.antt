@@ -1,0 +1,48 @@
+use borrow.Author.Needs.{needs}
+use Prim.Native.Nat.{_+_, _-_, _≤_, _<_}
+use mathlib.Core.Path.{_≡_, refl, sym, _∙_}
+use Rattle.block_index.proofs.Steps.{walk-start, walk-none, walk-hit, walk-on, walk-end}
+use Rattle.block_log.specs.Log as L
+use Rattle.block_index.specs.Index.{walk, place-of}
+use native.Mathlib.Omega.{arith}
+use Rattle.block_index.proofs.place_of.Statement.{statement}
+use Rattle.block_index.proofs.place_of.Tie as tie
+
+-- the walk from here ends as the whole does
+abbrev Inv-loop : tie.InvT-loop
+Inv-loop m space pc p₀ p = (p < L.places) × (walk m space pc p p ≡ place-of m space pc)
+
+abbrev μ-loop : tie.MeasureT-loop
+μ-loop m space pc p₀ p = p
+
+loop-holds : tie.Need-loop-holds Inv-loop μ-loop
+loop-holds c = (c .cell .ensures .1, walk-start (c .before .before .before .args .m .now) (c .before .before .before .args .space) (c .before .before .before .args .pc) (c .before .bucket .result) (c .cell .result) (c .before .bucket .ensures .0) (c .cell .ensures .0) (c .cell .ensures .1))
+
+returns : tie.Need-returns Inv-loop μ-loop
+returns c = (sym (walk-hit (c .before .before .before .before .before .before .before .args .m .now) (c .before .before .before .before .before .before .before .args .space) (c .before .before .before .before .before .before .before .args .pc) (c .before .before .before .loop .p) (c .before .before .loop-test .taken) (sym (c .before .block-at .ensures) ∙ c .if1 .taken)) ∙ c .before .before .before .loop .inv .1, c .before .before .before .loop .inv .0)
+
+returns-2 : tie.Need-returns-2 Inv-loop μ-loop
+returns-2 c = (sym (walk-end (c .before .before .before .before .before .before .before .before .before .args .m .now) (c .before .before .before .before .before .before .before .before .before .args .space) (c .before .before .before .before .before .before .before .before .before .args .pc) (c .before .before .before .before .before .loop .p) (c .before .before .before .before .loop-test .taken) (sym (c .before .before .before .block-at .ensures) ∙ c .before .before .if1 .left) (omega (arith, c .before .next-at .ensures .0))) ∙ c .before .before .before .before .before .loop .inv .1, omega arith)
+
+loop-again : tie.Need-loop-again Inv-loop μ-loop
+loop-again c = (c .before .next-at .ensures .1, rw (c .before .next-at .ensures .0) (sym (walk-on (c .before .before .before .before .before .before .before .before .before .args .m .now) (c .before .before .before .before .before .before .before .before .before .args .space) (c .before .before .before .before .before .before .before .before .before .args .pc) (c .before .before .before .before .before .loop .p) (c .before .before .before .before .loop-test .taken) (sym (c .before .before .before .block-at .ensures) ∙ c .before .before .if1 .left) (omega (arith, c .before .next-at .ensures .0))) ∙ c .before .before .before .before .before .loop .inv .1))
+
+returns-3 : tie.Need-returns-3 Inv-loop μ-loop
+returns-3 c = (walk-none (c .before .before .before .before .before .args .m .now) (c .before .before .before .before .before .args .space) (c .before .before .before .before .before .args .pc) (c .before .loop .p) _ (omega arith) (c .before .loop .inv .1), omega arith)
+
+pub place-of-spec : {M : Type 1} → statement M
+place-of-spec =
+    tie.close
+    (tie.spec
+    Inv-loop
+    μ-loop
+    (λ c κs. search needs)
+    (λ c κs. search needs)
+    loop-holds
+    (λ c κs. search needs)
+    returns
+    (λ c κs. search needs)
+    returns-2
+    (λ c. search needs)
+    loop-again
+    returns-3)

@@ -1,0 +1,108 @@
+-- What the operations promise over several calls (document 02, No. 2): from the empty index on, where only these calls
+-- change it and its store and each gets the last state.
+use Prim.Native.Nat.{ℕ, _^_, _<_}
+use mathlib.Core.Path.{_≡_}
+use mathlib.Core.Bool.{cond}
+use mathlib.Core.List.{List, [], _∷_}
+use lib.ListN.{length, take, drop}
+use Rattle.rules.specs.Limits.{index-entries}
+use Rattle.block_log.specs.Log.{index-bytes, emptied}
+use Rattle.block_index.specs.Model as Model
+use Rattle.block_index.specs.Model.{Block}
+use Rattle.block_index.specs.Index as Index
+use Rattle.block_index.specs.declared.Placed.{Placed}
+use Rattle.block_index.specs.declared.Found.{Found}
+
+-- a call, refused or not
+pub data Call : Type 0 where
+  empty : Call
+  place : (space pc count : ℕ) (code : List ℕ) → Call
+  lookup : (space pc : ℕ) → Call
+
+-- its numbers have the boundary's widths
+abbrev pub Fits : Call → Type 0
+Fits empty = Unit {0}
+Fits (place space pc count code) = (space < 2 ^ 64) × (pc < 2 ^ 64) × (count < 2 ^ 8)
+Fits (lookup space pc) = Unit {0}
+
+-- of every element
+abbrev pub All : {A : Type 0} → (A → Type 0) → List A → Type 0
+All P [] = Unit {0}
+All P (x ∷ xs) = P x × All P xs
+
+-- ---- the bytes
+
+pub record State : Type 0 where
+  pub index : List ℕ
+  pub store : List ℕ
+
+abbrev pub after-call : State → Call → State
+after-call s empty = record { index = emptied (s .index); store = s .store }
+after-call s (place space pc count code) =
+    let r = Index.place (s .index) (s .store) space pc count code in
+    record { index = r .index; store = r .store }
+after-call s (lookup space pc) = s
+
+abbrev pub after : State → List Call → State
+after s [] = s
+after s (c ∷ cs) = after (after-call s c) cs
+
+-- ---- the model
+
+-- the new block of a placing
+abbrev pub block : ℕ → List Block → ℕ → ℕ → ℕ → List ℕ → Block
+block size bs space pc count code =
+    record { space = space; pc = pc; start = Model.start size bs (length code); count = count; code = code }
+
+abbrev pub blocks-call : ℕ → List Block → Call → List Block
+blocks-call size bs empty = []
+blocks-call size bs (place space pc count code) =
+    cond (Model.refused size (length code)) bs (Model.placed index-entries bs (block size bs space pc count code))
+blocks-call size bs (lookup space pc) = bs
+
+abbrev pub blocks-after : ℕ → List Block → List Call → List Block
+blocks-after size bs [] = bs
+blocks-after size bs (c ∷ cs) = blocks-after size (blocks-call size bs c) cs
+
+-- ---- histories
+
+-- an index of any bytes, emptied, with its store, and the calls since
+pub record History : Type 0 where
+  pub index : List ℕ
+  pub store : List ℕ
+  pub calls : List Call
+  pub index-length : length index ≡ index-bytes
+  pub store-length : length store < 2 ^ 64
+  pub fits : All Fits calls
+
+abbrev pub state : History → State
+state h = after (record { index = emptied (h .index); store = h .store }) (h .calls)
+
+abbrev pub blocks : History → List Block
+blocks h = blocks-after (length (h .store)) [] (h .calls)
+
+-- the store has a block's code
+abbrev pub Holds : List ℕ → Block → Type 0
+Holds store b = take (length (b .code)) (drop (b .start) store) ≡ b .code
+
+-- ---- promises
+
+-- of a lookup in an index, and its answer
+pub record Looks (index : List ℕ) (space pc : ℕ) (r : Found) : Type 0 where
+  -- for any bytes
+  pub bytes : r ≡ Index.lookup index space pc
+  -- after any calls: the block that was placed last under the key and not dropped
+  pub history : (h : History) → index ≡ state h .index → r ≡ Model.lookup (blocks h) space pc
+  -- whose code the store has, as every block's
+  pub code : (h : History) → index ≡ state h .index → All (Holds (state h .store)) (blocks h)
+
+-- of a placing in an index and a store, its answer, and both afterwards
+pub record Places (index store : List ℕ) (space pc count : ℕ) (code : List ℕ) (r : Placed) (index′ store′ : List ℕ) : Type 0 where
+  -- for any bytes
+  pub bytes : Index.result r index′ store′ ≡ Index.place index store space pc count code
+  -- after any calls: where the block is, or its refusal
+  pub history : (h : History) → index ≡ state h .index → store ≡ state h .store
+      → r ≡ Model.place (length (h .store)) (blocks h) (length code)
+  -- the store has the code of every block that is not dropped
+  pub kept : (h : History) → index ≡ state h .index → store ≡ state h .store
+      → All (Holds store′) (blocks-call (length (h .store)) (blocks h) (place space pc count code))

@@ -1,0 +1,3 @@
+pub mod Model
+pub mod Index
+pub mod History

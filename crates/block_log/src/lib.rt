@@ -1,0 +1,158 @@
+// The bytes of an index: a log of places, and a chain of places for each bucket. specs/Log.antt has the layout.
+ghost use mathlib.Core.Path.{_≡_};
+ghost use Prim.Native.Nat.{_+_, _<_, _≤_};
+ghost use lib.ListN.{length};
+ghost use Rattle.le.specs.Le.{store};
+ghost use Rattle.block_log.specs.Log as L;
+
+pub const INDEX_BYTES: usize = 45056;
+
+pub const BUCKETS: usize = 2048;
+
+// With place 0, which is no place.
+pub const PLACES: u16 = 1024;
+
+// Where place 0 starts, and the bytes of a place.
+const LOG: usize = 2 * BUCKETS;
+
+const PLACE_BYTES: usize = 40;
+
+// What the index holds of a block.
+pub struct Entry {
+    pub space: u64,
+    pub pc: u64,
+    pub start: u64,
+    pub length: u64,
+    pub count: u8,
+}
+
+// The bucket of a key.
+pub fn bucket(space: u64, pc: u64) -> usize
+    ensures { λ r. ⌜ (r ≡ L.bucket space pc) × (r < 2048) ⌝ }
+{
+    let hash = fnv1a::more64(fnv1a::more64(fnv1a::BASIS, space), pc);
+    hash as usize % BUCKETS
+}
+
+pub fn cell(m: &[u8], b: usize) -> u16
+    requires { ⌜ (length (now m) ≡ L.index-bytes) × (b ≤ L.buckets) ⌝ }
+    ensures { λ r. ⌜ (r ≡ L.cell (now (m .entry)) b) × (r < L.places) ⌝ }
+{
+    le::load16(m, 2 * b) % PLACES
+}
+
+// The last place used.
+pub fn used(m: &[u8]) -> u16
+    requires { ⌜ length (now m) ≡ L.index-bytes ⌝ }
+    ensures { λ r. ⌜ (r ≡ L.used (now (m .entry))) × (r < L.places) ⌝ }
+{
+    cell(m, BUCKETS)
+}
+
+pub fn space_at(m: &[u8], p: u16) -> u64
+    requires { ⌜ (length (now m) ≡ L.index-bytes) × (p < L.places) ⌝ }
+    ensures { λ r. ⌜ r ≡ L.space-at (now (m .entry)) p ⌝ }
+{
+    le::load64(m, LOG + PLACE_BYTES * p as usize)
+}
+
+pub fn pc_at(m: &[u8], p: u16) -> u64
+    requires { ⌜ (length (now m) ≡ L.index-bytes) × (p < L.places) ⌝ }
+    ensures { λ r. ⌜ r ≡ L.pc-at (now (m .entry)) p ⌝ }
+{
+    le::load64(m, LOG + PLACE_BYTES * p as usize + 8)
+}
+
+pub fn start_at(m: &[u8], p: u16) -> u64
+    requires { ⌜ (length (now m) ≡ L.index-bytes) × (p < L.places) ⌝ }
+    ensures { λ r. ⌜ r ≡ L.start-at (now (m .entry)) p ⌝ }
+{
+    le::load64(m, LOG + PLACE_BYTES * p as usize + 16)
+}
+
+pub fn length_at(m: &[u8], p: u16) -> u64
+    requires { ⌜ (length (now m) ≡ L.index-bytes) × (p < L.places) ⌝ }
+    ensures { λ r. ⌜ r ≡ L.length-at (now (m .entry)) p ⌝ }
+{
+    le::load64(m, LOG + PLACE_BYTES * p as usize + 24)
+}
+
+pub fn next_at(m: &[u8], p: u16) -> u16
+    requires { ⌜ (length (now m) ≡ L.index-bytes) × (p < L.places) ⌝ }
+    ensures { λ r. ⌜ (r ≡ L.next-at (now (m .entry)) p) × (r < L.places) ⌝ }
+{
+    le::load16(m, LOG + PLACE_BYTES * p as usize + 32) % PLACES
+}
+
+pub fn count_at(m: &[u8], p: u16) -> u8
+    requires { ⌜ (length (now m) ≡ L.index-bytes) × (p < L.places) ⌝ }
+    ensures { λ r. ⌜ r ≡ L.count-at (now (m .entry)) p ⌝ }
+{
+    m[LOG + PLACE_BYTES * p as usize + 34]
+}
+
+pub fn entry_at(m: &[u8], p: u16) -> Entry
+    requires { ⌜ (length (now m) ≡ L.index-bytes) × (p < L.places) ⌝ }
+    ensures { λ r. ⌜ r ≡ L.entry-at (now (m .entry)) p ⌝ }
+{
+    Entry {
+        space: space_at(m, p),
+        pc: pc_at(m, p),
+        start: start_at(m, p),
+        length: length_at(m, p),
+        count: count_at(m, p),
+    }
+}
+
+fn put_count(m: &mut [u8], p: u16, count: u8)
+    requires { ⌜ (length (now m) ≡ L.index-bytes) × (p < L.places) ⌝ }
+    ensures { λ r. ⌜ now (m .exit) ≡ store 1 (now (m .entry)) (L.at p + 34) count ⌝ }
+{
+    m[LOG + PLACE_BYTES * p as usize + 34] = count;
+}
+
+fn put(m: &mut [u8], p: u16, e: Entry, next: u16)
+    requires { ⌜ (length (now m) ≡ L.index-bytes) × (p < L.places) ⌝ }
+    ensures { λ r. ⌜ now (m .exit) ≡ L.put (now (m .entry)) p e next ⌝ }
+{
+    let at = LOG + PLACE_BYTES * p as usize;
+    le::store64(m, at, e.space);
+    le::store64(m, at + 8, e.pc);
+    le::store64(m, at + 16, e.start);
+    le::store64(m, at + 24, e.length);
+    le::store16(m, at + 32, next);
+    put_count(m, p, e.count);
+}
+
+// The block at a place is dropped.
+pub fn drop_at(m: &mut [u8], p: u16)
+    requires { ⌜ (length (now m) ≡ L.index-bytes) × (p < L.places) ⌝ }
+    ensures { λ r. ⌜ now (m .exit) ≡ L.dropped (now (m .entry)) p ⌝ }
+{
+    le::store64(m, LOG + PLACE_BYTES * p as usize + 24, 0);
+}
+
+// No place used, no place in a bucket.
+pub fn empty(m: &mut [u8])
+    requires { ⌜ length (now m) ≡ L.index-bytes ⌝ }
+    ensures { λ r. ⌜ now (m .exit) ≡ L.emptied (now (m .entry)) ⌝ }
+{
+    let mut i = 0;
+    while i < LOG + 2 {
+        m[i] = 0;
+        i += 1;
+    }
+}
+
+// An entry behind the last place used.
+pub fn push(m: &mut [u8], e: Entry)
+    requires { ⌜ length (now m) ≡ L.index-bytes ⌝ }
+    ensures { λ r. ⌜ now (m .exit) ≡ L.pushed (now (m .entry)) e ⌝ }
+{
+    let p = used(m) % (PLACES - 1) + 1;
+    let b = bucket(e.space, e.pc);
+    let next = cell(m, b);
+    put(m, p, e, next);
+    le::store16(m, 2 * b, p);
+    le::store16(m, LOG, p);
+}
