@@ -6,6 +6,7 @@ ghost use lib.ListN.{length};
 ghost use Rattle.block_log.specs.Log as L;
 ghost use Rattle.block_index.specs.Model as Model;
 ghost use Rattle.block_index.specs.Index as I;
+ghost use Rattle.block_index.specs.History.{Looks, Places};
 use block_log::Entry;
 use rules::refusals;
 
@@ -67,7 +68,7 @@ fn place_of(m: &[u8], space: u64, pc: u64) -> u16
 
 pub fn lookup(m: &[u8], space: u64, pc: u64) -> Found
     requires { ⌜ length (now m) ≡ L.index-bytes ⌝ }
-    ensures { λ r. ⌜ r ≡ I.lookup (now (m .entry)) space pc ⌝ }
+    ensures { λ r. ⌜ Looks (now (m .entry)) space pc r ⌝ }
 {
     let p = place_of(m, space, pc);
     if p == 0 {
@@ -240,7 +241,7 @@ fn insert(m: &mut [u8], entries: u64, e: Entry)
 
 pub fn place(m: &mut [u8], store: &mut [u8], space: u64, pc: u64, count: u8, code: &[u8]) -> Placed
     requires { ⌜ length (now m) ≡ L.index-bytes ⌝ }
-    ensures { λ r. ⌜ I.result r (now (m .exit)) (now (store .exit)) ≡ I.place (now (m .entry)) (now (store .entry)) space pc count (now (code .entry)) ⌝ }
+    ensures { λ r. ⌜ Places (now (m .entry)) (now (store .entry)) space pc count (now (code .entry)) r (now (m .exit)) (now (store .exit)) ⌝ }
 {
     let size = store.len() as u64;
     let length = code.len() as u64;

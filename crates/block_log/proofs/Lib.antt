@@ -1,1 +1,3 @@
 pub mod Emptying
+pub mod Tests
+pub mod Laws

@@ -18,7 +18,11 @@ use Rattle.hilofanur.specs.declared.PlaceAnswer.{PlaceAnswer}
 use Rattle.hilofanur.specs.declared.A64RunAnswer.{A64RunAnswer}
 use Rattle.hilofanur.specs.declared.Rv64RunAnswer.{Rv64RunAnswer}
 use Rattle.hilofanur.specs.declared.ListAnswer.{ListAnswer}
+use Rattle.hilofanur.specs.declared.IndexPlaceAnswer.{IndexPlaceAnswer}
+use Rattle.hilofanur.specs.declared.IndexLookupAnswer.{IndexLookupAnswer}
 use Rattle.listing.specs.declared.Listed.{Listed}
+use Rattle.block_index.specs.declared.Placed.{Placed}
+use Rattle.block_index.specs.declared.Found.{Found}
 
 -- ---- Translate: the answer, and the output's bytes
 
@@ -115,3 +119,11 @@ rv64-run guest pc limit e registers = rv64-of registers (answer guest (rv64-hart
 
 abbrev pub listed : ListAnswer → Listed
 listed a = record { refusal = a .refusal; length = a .length; offset = a .offset }
+
+-- ---- the index: the answers by the names of its operations
+
+abbrev pub placed : IndexPlaceAnswer → Placed
+placed a = record { refusal = a .refusal; start = a .start }
+
+abbrev pub found : IndexLookupAnswer → Found
+found a = record { refusal = a .refusal; start = a .start; length = a .length; count = a .count }

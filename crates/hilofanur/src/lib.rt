@@ -3,6 +3,8 @@ ghost use mathlib.Core.Path.{_≡_};
 ghost use lib.ListN.{take};
 ghost use Rattle.translation.specs.Demand3.{Demand3};
 ghost use Rattle.listing.specs.Listing.{Lists};
+ghost use Rattle.block_log.specs.Log.{emptied};
+ghost use Rattle.block_index.specs.History.{Looks, Places};
 ghost use Rattle.hilofanur.specs.Answers as Answers;
 
 mod a64_state;
@@ -49,6 +51,22 @@ pub struct ListAnswer {
     pub refusal: u64,
     pub length: u64,
     pub offset: u64,
+}
+
+// The refusal, 0 where the code was placed; where it starts in the store.
+#[repr(C)]
+pub struct IndexPlaceAnswer {
+    pub refusal: u64,
+    pub start: u64,
+}
+
+// The refusal, 0 where the block was found; where its code starts in the store, its length, its count of guest instructions.
+#[repr(C)]
+pub struct IndexLookupAnswer {
+    pub refusal: u64,
+    pub start: u64,
+    pub length: u64,
+    pub count: u64,
 }
 
 #[no_mangle]
@@ -165,5 +183,48 @@ pub extern "C" fn hilofanur_list(block: &[u8], output: &mut [u8]) -> ListAnswer
         refusal: listed.refusal,
         length: listed.length,
         offset: listed.offset,
+    }
+}
+
+// index: block_log's layout. Emptied once, it is the calls' own.
+#[no_mangle]
+pub extern "C" fn hilofanur_index_empty(index: &mut [u8; 45056])
+    ensures { λ r. ⌜ now (index .exit) ≡ emptied (now (index .entry)) ⌝ }
+{
+    block_index::empty(index);
+}
+
+#[no_mangle]
+pub extern "C" fn hilofanur_index_place(
+    index: &mut [u8; 45056],
+    store: &mut [u8],
+    space: u64,
+    pc: u64,
+    count: u8,
+    code: &[u8],
+) -> IndexPlaceAnswer
+    ensures { λ r. ⌜ Places (now (index .entry)) (now (store .entry)) space pc count (now (code .entry)) (Answers.placed r) (now (index .exit)) (now (store .exit)) ⌝ }
+{
+    let placed = block_index::place(index, store, space, pc, count, code);
+    IndexPlaceAnswer {
+        refusal: placed.refusal,
+        start: placed.start,
+    }
+}
+
+#[no_mangle]
+pub extern "C" fn hilofanur_index_lookup(
+    index: &[u8; 45056],
+    space: u64,
+    pc: u64,
+) -> IndexLookupAnswer
+    ensures { λ r. ⌜ Looks (now (index .entry)) space pc (Answers.found r) ⌝ }
+{
+    let found = block_index::lookup(index, space, pc);
+    IndexLookupAnswer {
+        refusal: found.refusal,
+        start: found.start,
+        length: found.length,
+        count: found.count,
     }
 }

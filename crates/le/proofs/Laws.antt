@@ -133,13 +133,18 @@ load-ext (suc k) m m′ i h h′ e =
     (λ t l. let q : i + 1 + t ≡ i + suc t = omega arith in rw q (e (suc t) (omega arith))) in
     rw (← one-add k, load-add 1 k m i, load-add 1 k m′ i, load-byte m i (omega arith), load-byte m′ i (omega arith), z, r)
 
+-- stored at i, loaded elsewhere
+pub load-apart : (k k′ : ℕ) (m : List ℕ) (i v j : ℕ) → i + k ≤ length m → j + k′ ≤ length m → (j + k′ ≤ i) ⊎ (i + k ≤ j)
+    → load k′ (store k m i v) j ≡ load k′ m j
+load-apart k k′ m i v j hi hj (inl h) =
+    load-ext k′ (store k m i v) m j (rw (length-store k m i v hi) hj) hj (λ t l. store-below k m i v (j + t) (omega arith) (omega arith))
+load-apart k k′ m i v j hi hj (inr h) =
+    load-ext k′ (store k m i v) m j (rw (length-store k m i v hi) hj) hj
+    (λ t l. let q : i + k + (j - (i + k) + t) ≡ j + t = omega arith in rw q at (store-above k m i v (j - (i + k) + t) (omega arith)))
+
 pub load-other : (k : ℕ) (m : List ℕ) (i v j : ℕ) → i + k ≤ length m → j + k ≤ length m → (j + k ≤ i) ⊎ (i + k ≤ j)
     → load k (store k m i v) j ≡ load k m j
-load-other k m i v j hi hj (inl h) =
-    load-ext k (store k m i v) m j (rw (length-store k m i v hi) hj) hj (λ t l. store-below k m i v (j + t) (omega arith) (omega arith))
-load-other k m i v j hi hj (inr h) =
-    load-ext k (store k m i v) m j (rw (length-store k m i v hi) hj) hj
-    (λ t l. let q : i + k + (j - (i + k) + t) ≡ j + t = omega arith in rw q at (store-above k m i v (j - (i + k) + t) (omega arith)))
+load-other k = load-apart k k
 
 -- a load of bytes has as many
 bytes-drop : (i : ℕ) (m : List ℕ) → Bytes m → Bytes (drop i m)

@@ -1,0 +1,16 @@
+-- A statement on a test's answer, from the statement on each answer. Assumes nothing.
+use mathlib.Core.Path.{_≡_, refl}
+use mathlib.Core.Bool.{Bool, true, false}
+use Prim.Native.Nat.{ℕ, _≤_, _<_}
+use lib.Dec.{eqb, ltb}
+use borrow.Author.Tests.{eqb-true, eqb-false, ltb-true, ltb-false}
+
+pub by-test : (P : Bool → Type 0) (t : Bool) → (t ≡ true → P true) → (t ≡ false → P false) → P t
+by-test P true f g = f refl
+by-test P false f g = g refl
+
+pub by-eqb : (P : Bool → Type 0) (a b : ℕ) → (a ≡ b → P true) → ((a ≡ b → ⊥) → P false) → P (eqb a b)
+by-eqb P a b f g = by-test P (eqb a b) (λ q. f (eqb-true a b q)) (λ q. g (eqb-false a b q))
+
+pub by-ltb : (P : Bool → Type 0) (a b : ℕ) → (a < b → P true) → (b ≤ a → P false) → P (ltb a b)
+by-ltb P a b f g = by-test P (ltb a b) (λ q. f (ltb-true a b q)) (λ q. g (ltb-false a b q))
