@@ -5,7 +5,7 @@ use mathlib.Core.Bool.{Bool, false, cond, not, _&&_, _||_}
 use mathlib.Core.List.{List, [], _∷_}
 use Prim.Native.Nat.{ℕ, zero, suc, _+_, _-_, _≤_, _<_}
 use native.Mathlib.Omega.{arith}
-use native.Mathlib.Nat.{zero-add, add-zero, suc-add}
+use native.Mathlib.Nat.{add-zero}
 use native.Mathlib.Numerals.{one-add}
 use lib.Dec.{eqb, ltb}
 use lib.ListN.{length}
@@ -14,6 +14,7 @@ use Rattle.block_log.specs.declared.Entry.{Entry}
 use Rattle.block_log.specs.Log.{index-bytes, bucket, cell, used, emptied, at, next-at, entry-at, behind, pushed}
 use Rattle.block_log.proofs.Laws.{Same, both, Fits, same-within, marked, marks, emptied-within, emptied-cell, bucket-lt, pushes}
 use Rattle.block_log.proofs.Tests.{by-eqb}
+use Rattle.block_index.proofs.Steps.{walk-past}
 use Rattle.block_index.specs.Index.{walk, swept-at, swept, refilled-at, refilled}
 
 -- ---- the list
@@ -79,10 +80,6 @@ module _ (m : List ℕ) (space pc : ℕ) where
   unfolding walk
   walk-here k = rw (eq-eqb (suc k) (suc k) refl)
 
-  walk-past : (k p : ℕ) → p ≤ k → walk m space pc (suc k) p ≡ walk m space pc k p
-  unfolding walk
-  walk-past k p h = rw (ne-eqb p (suc k) (λ e. omega arith))
-
   -- a block of another bucket has another key
   other-key : (x : Entry) → (bucket (x .space) (x .pc) ≡ bucket space pc → ⊥) → has space pc x ≡ false
   other-key x h =
@@ -99,18 +96,15 @@ module _ (m : List ℕ) (space pc : ℕ) where
       by-eqb (λ (t : Bool). walk m space pc (suc n) (cond t (suc n) (newest (bucket space pc) xs)) ≡ cond (has space pc x) (suc n) w)
       (bucket (x .space) (x .pc)) (bucket space pc)
       (λ q. walk-here n ∙ rw (r .1, q) (ap (λ (y : Entry). cond (has space pc y) (suc n) w) (r .0)))
-      (λ q. walk-past n (newest (bucket space pc) xs) (newest-le (bucket space pc) xs) ∙ rw (other-key x q))
-
-  pub walk-up : (d k p : ℕ) → p ≤ k → walk m space pc (d + k) p ≡ walk m space pc k p
-  walk-up zero k p h = rw (zero-add k)
-  walk-up (suc d) k p h = rw (suc-add d k) (walk-past (d + k) p (omega arith) ∙ walk-up d k p h)
+      (λ q. walk-past m space pc n (newest (bucket space pc) xs) (newest-le (bucket space pc) xs) ∙ rw (other-key x q))
 
 -- ---- the sweep
 
 -- whether an entry goes
 abbrev pub gone : Entry → ℕ → Entry → Bool
 gone e room x =
-    eqb (x .space) (e .space) && eqb (x .pc) (e .pc) || (ltb (x .start) (e .start + e .length) && ltb (e .start - x .start) (x .length) || eqb room 0)
+    not (eqb (x .length) 0)
+    && (eqb (x .space) (e .space) && eqb (x .pc) (e .pc) || (ltb (x .start) (e .start + e .length) && ltb (e .start - x .start) (x .length) || eqb room 0))
 
 abbrev pub left : Entry → ℕ → Entry → ℕ
 left e room x = cond (gone e room x) room (room - cond (eqb (x .length) 0) 0 1)

@@ -1,13 +1,13 @@
 -- The promises over several calls: after each, the index's bytes and the store have the blocks of the model. Assumes nothing.
 use mathlib.Core.Path.{_≡_, refl, sym, ap, _∙_}
-use mathlib.Core.Bool.{Bool, false, cond, not, _&&_, _||_, true≢false}
+use mathlib.Core.Bool.{Bool, false, cond, _&&_, true≢false}
 use mathlib.Core.List.{List, [], _∷_, _++_, map, append-assoc}
-use Prim.Native.Nat.{ℕ, suc, _+_, _-_, _%_, _^_, _≤_, _<_}
+use Prim.Native.Nat.{ℕ, suc, _+_, _-_, _^_, _≤_, _<_}
 use native.Mathlib.Omega.{arith}
-use lib.Dec.{eqb, ltb}
+use lib.Dec.{ltb}
 use lib.ListN.{length, take, drop, length-map, length-append, length-take, length-drop, take-append-drop}
 use lib.Seq.{take-all, take-at, drop-at, drop-drop, length-take-le, take-append-le, drop-append-le}
-use borrow.Author.Tests.{ne-eqb, ltb-false}
+use borrow.Author.Tests.{ne-eqb}
 use Rattle.rules.specs.Limits.{index-entries}
 use Rattle.rules.specs.Refusals as Refusals
 use Rattle.block_log.specs.declared.Entry.{Entry}
@@ -22,7 +22,8 @@ use Rattle.block_index.specs.Index as Index
 use Rattle.block_index.specs.Index.{start-for, compacted, Result, result, placed-at}
 use Rattle.block_index.specs.History as History
 use Rattle.block_index.specs.History.{Call, State, History, All, Looks, Places, after-call, after, block, blocks-call, blocks-after, state, blocks}
-use Rattle.block_index.proofs.Chains.{Lists, empties, pushing, newest, newest-le, walk-up, sweep, sweeping, refilled-from}
+use Rattle.block_index.proofs.Steps.{walk-up, accepted}
+use Rattle.block_index.proofs.Chains.{Lists, empties, pushing, newest, newest-le, sweep, sweeping, refilled-from}
 use Rattle.block_index.proofs.Views.{entry-of, Fine, Views, all-hold, together, finds, fits, refills, stays}
 use Rattle.block_index.proofs.Views.Views.{none, dead, live}
 
@@ -110,12 +111,6 @@ starts {size = size} m n (live {xs = xs} {b = b} f v) t g =
 fitting : (size : ℕ) (bs : List Block) (n : ℕ) → n ≤ size → Model.start size bs n + n ≤ size
 fitting size [] n h = omega arith
 fitting size (b ∷ bs) n h = by-ltb (λ (t : Bool). cond t 0 (end b) + n ≤ size) size (end b + n) (λ l. omega arith) (λ l. l)
-
-accepted : (size n : ℕ) → Model.refused size n ≡ false → (0 < n) × (n ≤ size)
-accepted size n =
-    by-eqb (λ (t : Bool). (t || (not (eqb (n % 4) 0) || ltb size n)) ≡ false → (0 < n) × (n ≤ size)) n 0 (λ z e. absurd (true≢false e))
-    (λ z. by-eqb (λ (t : Bool). (not t || ltb size n) ≡ false → (0 < n) × (n ≤ size)) (n % 4) 0
-    (λ d e. (omega arith, ltb-false size n e)) (λ d e. absurd (true≢false e)))
 
 -- a log with room for one place more
 abbrev Roomy : ℕ → List ℕ → List ℕ → List Block → Type 0

@@ -1,17 +1,17 @@
 -- A step of each loop of the definitions. Assumes nothing.
 use Prim.Native.Nat.{ℕ, zero, suc, _+_, _-_, _%_, _≤_, _<_}
 use mathlib.Core.Path.{_≡_, refl, sym, ap, _∙_}
-use mathlib.Core.Bool.{Bool, true, false, not, _||_}
+use mathlib.Core.Bool.{Bool, true, false, not, _||_, true≢false}
 use mathlib.Core.List.{List}
-use mathlib.Core.Logic.{_⊎_, inl, inr}
-use native.Mathlib.Nat.{eq-or-lt-of-le}
+use native.Mathlib.Nat.{zero-add, suc-add}
 use native.Mathlib.Omega.{arith}
 use lib.Dec.{eqb, ltb}
 use lib.ListN.{length}
 use borrow.Author.Tests.{eq-eqb, ne-eqb, lt-ltb, le-ltb, ltb-false}
 use Rattle.block_log.specs.declared.Entry.{Entry}
 use Rattle.block_log.specs.Log.{places, bucket, cell, used, start-at, length-at, next-at, count-at}
-use Rattle.block_index.specs.Index.{key-at, block-at, walk, place-of, found-at, lookup, start-for, overlap-at, goes, swept-at, room-at, swept, refilled-at, refilled, result, placed-at, place}
+use Rattle.block_log.proofs.Tests.{by-eqb}
+use Rattle.block_index.specs.Index.{key-at, block-at, walk, place-of, found-at, lookup, start-for, overlap-at, puts-out, swept-at, room-at, swept, refilled-at, refilled, result, placed-at, place}
 use Rattle.block_index.specs.Model as Model
 use Rattle.block_index.specs.declared.Found.{Found}
 
@@ -23,16 +23,17 @@ module _ (m : List ℕ) (space pc : ℕ) where
   walk-high zero p h = refl
   walk-high (suc k) p h = rw (ne-eqb p (suc k) (λ e. omega arith)) (walk-high k p (omega arith))
 
-  down : (k p : ℕ) → (p ≤ k → walk m space pc k p ≡ walk m space pc p p) → (p ≡ suc k) ⊎ (p < suc k)
-      → walk m space pc (suc k) p ≡ walk m space pc p p
-  unfolding walk
-  down k p again (inl e) = rw e
-  down k p again (inr h) = rw (ne-eqb p (suc k) (λ e. omega arith)) (again (omega arith))
-
   -- places above that from which the chain goes on are passed over
-  pub walk-down : (k p : ℕ) → p ≤ k → walk m space pc k p ≡ walk m space pc p p
-  walk-down zero p h = let e : p ≡ 0 = omega arith in rw e
-  walk-down (suc k) p h = down k p (walk-down k p) (eq-or-lt-of-le h)
+  pub walk-past : (k p : ℕ) → p ≤ k → walk m space pc (suc k) p ≡ walk m space pc k p
+  unfolding walk
+  walk-past k p h = rw (ne-eqb p (suc k) (λ e. omega arith))
+
+  pub walk-up : (d k p : ℕ) → p ≤ k → walk m space pc (d + k) p ≡ walk m space pc k p
+  walk-up zero k p h = rw (zero-add k)
+  walk-up (suc d) k p h = rw (suc-add d k) (walk-past (d + k) p (omega arith) ∙ walk-up d k p h)
+
+  walk-down : (k p : ℕ) → p ≤ k → walk m space pc k p ≡ walk m space pc p p
+  walk-down k p h = let e : k ≡ k - p + p = omega arith in rw e (walk-up (k - p) p p (omega arith))
 
   pub walk-start : (b p : ℕ) → b ≡ bucket space pc → p ≡ cell m b → p < places → walk m space pc p p ≡ place-of m space pc
   walk-start b p eb ep h = rw (← eb, ← ep) (sym (walk-down 1023 p (omega arith)))
@@ -76,13 +77,11 @@ module _ (m : List ℕ) (space pc p : ℕ) (e : p ≡ place-of m space pc) where
 
 -- ---- refusal 15
 
-too-long : (a b c : Bool) → (a || (b || c)) ≡ false → c ≡ false
-too-long true b c h = cc
-too-long false true c h = cc
-too-long false false c h = h
-
-pub fits : (size n : ℕ) → Model.refused size n ≡ false → n ≤ size
-fits size n h = ltb-false size n (too-long (eqb n 0) (not (eqb (n % 4) 0)) (ltb size n) h)
+pub accepted : (size n : ℕ) → Model.refused size n ≡ false → (0 < n) × (n ≤ size)
+accepted size n =
+    by-eqb (λ (t : Bool). (t || (not (eqb (n % 4) 0) || ltb size n)) ≡ false → (0 < n) × (n ≤ size)) n 0 (λ z e. absurd (true≢false e))
+    (λ z. by-eqb (λ (t : Bool). (not t || ltb size n) ≡ false → (0 < n) × (n ≤ size)) (n % 4) 0
+    (λ d e. (omega arith, ltb-false size n e)) (λ d e. absurd (true≢false e)))
 
 module _ (m store : List ℕ) (space pc count : ℕ) (code : List ℕ) where
   pub place-refused : Model.refused (length store) (length code) ≡ true
@@ -125,7 +124,7 @@ either false true room h = let z : _≡_ {A = ℕ} 0 1 = cc in omega arith
 either false false zero h = let z : _≡_ {A = ℕ} 0 1 = cc in omega arith
 either false false (suc room) h = omega arith
 
-pub stays-room : (m : List ℕ) (e : Entry) (room p : ℕ) → goes m e room p ≡ false → 0 < room
+pub stays-room : (m : List ℕ) (e : Entry) (room p : ℕ) → puts-out m e room p ≡ false → 0 < room
 stays-room m e room p h = either (key-at m (e .space) (e .pc) p) (overlap-at m (e .start) (e .start + e .length) p) room h
 
 pub swept-step : (m : List ℕ) (e : Entry) (room p : ℕ) → (p ≡ 0 → ⊥)

@@ -18,7 +18,7 @@ use Rattle.block_index.specs.Model as Model
 use Rattle.block_index.specs.Model.{Block, end, same-key, overlap, without}
 use Rattle.block_index.specs.Index.{found-at, walk, refilled}
 use Rattle.block_index.specs.History.{All, Holds}
-use Rattle.block_index.proofs.Chains.{Rows, newest, Refills, refill-none, refill-one, walk-step, gone, sweep}
+use Rattle.block_index.proofs.Chains.{Rows, newest, Refills, refill-none, refill-one, walk-step, sweep}
 
 abbrev pub entry-of : Block → Entry
 entry-of b = record { space = b .space; pc = b .pc; start = b .start; length = length (b .code); count = b .count }
@@ -98,27 +98,22 @@ module _ {size : ℕ} {store store′ : List ℕ} (b : Block) (keeps : (c : Bloc
   stay bs = without (overlap b) (without (same-key b) bs)
 
   module _ (xs : List Entry) where
-    stays-dead : (room : ℕ) (x : Entry) (goes : Bool) {bs : List Block} → x .length ≡ 0 → Views size store′ (sweep (entry-of b) room xs) bs
-        → Views size store′ (marked goes x ∷ sweep (entry-of b) (cond goes room (room - cond (eqb (x .length) 0) 0 1)) xs) bs
-    stays-dead room x true z v = dead refl v
-    stays-dead room x false z v = rw (eq-eqb (x .length) 0 z, sub-zero room) (dead z v)
-
     stays-live : (c : Block) (bs : List Block) → Fine size store c
         → ((room : ℕ) → Views size store′ (sweep (entry-of b) room xs) (take room (stay bs)))
         → (key over : Bool) (room : ℕ) → overlap b c ≡ over
         → let goes = key || (over || eqb room 0) in
-        Views size store′ (marked goes (entry-of c) ∷ sweep (entry-of b) (cond goes room (room - cond (eqb (length (c .code)) 0) 0 1)) xs)
+        Views size store′ (marked goes (entry-of c) ∷ sweep (entry-of b) (cond goes room (room - 1)) xs)
         (take room (without (overlap b) (cond key (without (same-key b) bs) (c ∷ without (same-key b) bs))))
     stays-live c bs f v true over room q = dead refl (v room)
     stays-live c bs f v false true room q = rw q (dead refl (v room))
     stays-live c bs f v false false zero q = dead refl (v zero)
     stays-live c bs f v false false (suc room) q =
         let i : suc room - 1 ≡ room = omega arith in
-        rw (q, ne-eqb (suc room) 0 (λ e. omega arith), ne-eqb (length (c .code)) 0 (λ e. omega (arith, f .some)), i) (live (keeps c q f) (v room))
+        rw (q, ne-eqb (suc room) 0 (λ e. omega arith), i) (live (keeps c q f) (v room))
 
   pub stays : (room : ℕ) {es : List Entry} {bs : List Block} → Views size store es bs
       → Views size store′ (sweep (entry-of b) room es) (take room (stay bs))
   stays room none = rw (take-nil {A = Block} room) none
-  stays room (dead {x = x} {xs = xs} z v) = stays-dead xs room x (gone (entry-of b) room x) z (stays room v)
+  stays room (dead {x = x} z v) = rw (eq-eqb (x .length) 0 z, sub-zero room) (dead z (stays room v))
   stays room (live {xs = xs} {b = c} {bs = bs} f v) =
-      rw (overlap-of b c (f .some)) (stays-live xs c bs f (λ r. stays r v) (same-key b c) (overlap b c) room refl)
+      rw (ne-eqb (length (c .code)) 0 (λ e. omega (arith, f .some)), overlap-of b c (f .some)) (stays-live xs c bs f (λ r. stays r v) (same-key b c) (overlap b c) room refl)

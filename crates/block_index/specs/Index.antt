@@ -52,9 +52,13 @@ start-for m size n =
 abbrev pub overlap-at : List ℕ → ℕ → ℕ → ℕ → Bool
 overlap-at m start end p = ltb (start-at m p) end && ltb (start - start-at m p) (length-at m p)
 
--- whether the block at a place goes, where `room` more may stay
+-- whether a new block puts out the one at a place, where `room` more may stay
+abbrev pub puts-out : List ℕ → Entry → ℕ → ℕ → Bool
+puts-out m e room p = key-at m (e .space) (e .pc) p || (overlap-at m (e .start) (e .start + e .length) p || eqb room 0)
+
+-- whether the block at a place goes
 abbrev pub goes : List ℕ → Entry → ℕ → ℕ → Bool
-goes m e room p = key-at m (e .space) (e .pc) p || (overlap-at m (e .start) (e .start + e .length) p || eqb room 0)
+goes m e room p = not (eqb (length-at m p) 0) && puts-out m e room p
 
 -- a place that has a block
 abbrev pub live : List ℕ → ℕ → ℕ

@@ -1,7 +1,6 @@
 // The index of blocks by address space and PC (document 02, No. 2), in bytes that are lent; block_log has their layout.
 ghost use mathlib.Core.Path.{_≡_};
-ghost use mathlib.Core.Bool.{cond};
-ghost use Prim.Native.Nat.{_+_, _-_, _^_, _≤_, _<_};
+ghost use Prim.Native.Nat.{_+_, _^_, _≤_, _<_};
 ghost use lib.ListN.{length};
 ghost use Rattle.block_log.specs.Log as L;
 ghost use Rattle.block_index.specs.Model as Model;
@@ -141,10 +140,10 @@ fn overlap_at(m: &[u8], start: u64, end: u64, p: u16) -> bool
     start - other < length
 }
 
-// Whether the block at a place goes, where `room` more may stay.
-fn goes(m: &[u8], e: Entry, room: u64, p: u16) -> bool
+// Whether a new block puts out the one at a place, where `room` more may stay.
+fn puts_out(m: &[u8], e: Entry, room: u64, p: u16) -> bool
     requires { ⌜ (length (now m) ≡ L.index-bytes) × (p < L.places) × (e .start + e .length < 2 ^ 64) ⌝ }
-    ensures { λ r. ⌜ r ≡ I.goes (now (m .entry)) e room p ⌝ }
+    ensures { λ r. ⌜ r ≡ I.puts-out (now (m .entry)) e room p ⌝ }
 {
     if key_at(m, e.space, e.pc, p) {
         return true;
@@ -155,28 +154,19 @@ fn goes(m: &[u8], e: Entry, room: u64, p: u16) -> bool
     room == 0
 }
 
-// 1 where a place has a block.
-fn live(m: &[u8], p: u16) -> u64
-    requires { ⌜ (length (now m) ≡ L.index-bytes) × (p < L.places) ⌝ }
-    ensures { λ r. ⌜ (r ≡ I.live (now (m .entry)) p) × (r ≤ 1) ⌝ }
-{
-    if block_log::length_at(m, p) == 0 {
-        0
-    } else {
-        1
-    }
-}
-
 // Drops the block at a place if it goes; for how many others there is room then.
 fn sweep_at(m: &mut [u8], e: Entry, room: u64, p: u16) -> u64
     requires { ⌜ (length (now m) ≡ L.index-bytes) × (p < L.places) × (e .start + e .length < 2 ^ 64) ⌝ }
     ensures { λ r. ⌜ (now (m .exit) ≡ I.swept-at (now (m .entry)) e room p) × (r ≡ I.room-at (now (m .entry)) e room p) ⌝ }
 {
-    if goes(m, e, room, p) {
+    if block_log::length_at(m, p) == 0 {
+        return room;
+    }
+    if puts_out(m, e, room, p) {
         block_log::drop_at(m, p);
         return room;
     }
-    room - live(m, p)
+    room - 1
 }
 
 // Drops the blocks that go, from the last place to the first.

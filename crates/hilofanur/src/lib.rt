@@ -205,10 +205,10 @@ pub extern "C" fn hilofanur_index_place(
 ) -> IndexPlaceAnswer
     ensures { λ r. ⌜ Places (now (index .entry)) (now (store .entry)) space pc count (now (code .entry)) (Answers.placed r) (now (index .exit)) (now (store .exit)) ⌝ }
 {
-    let placed = block_index::place(index, store, space, pc, count, code);
+    let answer = block_index::place(index, store, space, pc, count, code);
     IndexPlaceAnswer {
-        refusal: placed.refusal,
-        start: placed.start,
+        refusal: answer.refusal,
+        start: answer.start,
     }
 }
 

@@ -1,9 +1,9 @@
 use borrow.Author.Needs.{needs}
-use Prim.Native.Nat.{_+_, _-_, _≤_, _<_}
-use mathlib.Core.Path.{_≡_, refl, sym, _∙_}
+use Prim.Native.Nat.{_+_, _-_, _≤_}
+use mathlib.Core.Path.{_≡_, sym, _∙_}
 use lib.ListN.{length}
 use Rattle.block_index.proofs.Steps.{refilled-step}
-use Rattle.block_log.specs.Log.{index-bytes, places, emptied, used}
+use Rattle.block_log.specs.Log.{index-bytes}
 use Rattle.block_index.specs.Index.{refilled}
 use native.Mathlib.Omega.{arith}
 use Rattle.block_index.proofs.compact.Statement.{statement}

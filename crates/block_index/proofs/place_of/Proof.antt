@@ -1,6 +1,6 @@
 use borrow.Author.Needs.{needs}
-use Prim.Native.Nat.{_+_, _-_, _≤_, _<_}
-use mathlib.Core.Path.{_≡_, refl, sym, _∙_}
+use Prim.Native.Nat.{_<_}
+use mathlib.Core.Path.{_≡_, sym, _∙_}
 use Rattle.block_index.proofs.Steps.{walk-start, walk-none, walk-hit, walk-on, walk-end}
 use Rattle.block_log.specs.Log as L
 use Rattle.block_index.specs.Index.{walk, place-of}

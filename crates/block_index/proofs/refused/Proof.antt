@@ -1,4 +1,3 @@
-use borrow.Author.Needs.{needs}
 use borrow.Author.Tests.{eq-eqb, ne-eqb}
 use Rattle.block_index.proofs.refused.Statement.{statement}
 use Rattle.block_index.proofs.refused.Tie as tie

@@ -1,30 +1,36 @@
 use borrow.Author.Needs.{needs}
 use Rattle.block_index.proofs.Steps.{stays-room}
-use Prim.Native.Nat.{_<_}
+use borrow.Author.Tests.{eq-eqb, ne-eqb}
+use native.Mathlib.Nat.{sub-zero}
 use native.Mathlib.Omega.{arith}
 use Rattle.block_index.proofs.sweep_at.Statement.{statement}
 use Rattle.block_index.proofs.sweep_at.Tie as tie
 
 returns : tie.Need-returns
-returns c = (rw (c .before .before .drop-at .ensures, ← c .before .before .before .before .before .goes .ensures, c .before .before .before .before .if1 .taken), rw (← c .before .before .before .before .before .goes .ensures, c .before .before .before .before .if1 .taken))
+returns c = let z = rw (c .before .length-at .ensures) at (c .if1 .taken) in (rw (eq-eqb _ _ z), rw (eq-eqb _ _ z, sub-zero))
+
+returns-2 : tie.Need-returns-2
+returns-2 c = let z = rw (c .before .before .before .before .before .before .before .before .length-at .ensures) at (c .before .before .before .before .before .before .before .if1 .left) in (rw (c .before .before .drop-at .ensures, ne-eqb _ _ z, ← c .before .before .before .before .before .puts-out .ensures, c .before .before .before .before .if2 .taken), rw (ne-eqb _ _ z, ← c .before .before .before .before .before .puts-out .ensures, c .before .before .before .before .if2 .taken))
 
 sub-result : tie.Need-sub-result
 sub-result c =
-    let h = stays-room (c .before .before .before .before .before .before .args .m .now) (c .before .before .before .before .before .before .args .e) (c .before .before .before .before .before .before .args .room) (c .before .before .before .before .before .before .args .p) (rw (c .before .before .before .goes .ensures) at (c .before .before .if1 .left)) in
+    let h = stays-room (c .before .before .before .before .before .before .before .args .m .now) (c .before .before .before .before .before .before .before .args .e) (c .before .before .before .before .before .before .before .args .room) (c .before .before .before .before .before .before .before .args .p) (rw (c .before .puts-out .ensures) at (c .if2 .left)) in
     omega arith
 
-returns-2 : tie.Need-returns-2
-returns-2 c = (rw (← c .before .before .before .goes .ensures, c .before .before .if1 .left), rw (← c .before .before .before .goes .ensures, c .before .before .if1 .left, c .live .ensures .0))
+returns-3 : tie.Need-returns-3
+returns-3 c = let z = rw (c .before .before .before .before .length-at .ensures) at (c .before .before .before .if1 .left) in (rw (ne-eqb _ _ z, ← c .before .puts-out .ensures, c .if2 .left), rw (ne-eqb _ _ z, ← c .before .puts-out .ensures, c .if2 .left))
 
 pub sweep-at-spec : {M : Type 1} → statement M
 sweep-at-spec =
     tie.close
     (tie.spec
     (λ c κs. search needs)
-    (λ c κs. search needs)
     (λ c. search needs)
     returns
     (λ c κs. search needs)
+    (λ c κs. search needs)
+    (λ c. search needs)
+    returns-2
     sub-result
     (λ c. search needs)
-    returns-2)
+    returns-3)

@@ -1,5 +1,4 @@
 use borrow.Author.Needs.{needs}
-use Rattle.le.specs.Le.{bytes}
 use Rattle.fnv1a.proofs.Laws.{more-append}
 use Rattle.block_log.specs.Log.{bucket}
 use native.Mathlib.Omega.{arith}

@@ -1,8 +1,8 @@
 use borrow.Author.Needs.{needs}
-use Prim.Native.Nat.{_≤_, _-_, _+_}
+use Prim.Native.Nat.{_≤_, _-_}
 use mathlib.Core.Path.{_≡_, refl}
 use mathlib.Core.List.{_++_}
-use lib.ListN.{length, drop}
+use lib.ListN.{drop}
 use Rattle.le.specs.Le.{bytes}
 use Rattle.block_log.proofs.Emptying.{zero-more, length-zeros}
 use native.Mathlib.Omega.{arith}
