@@ -21,24 +21,25 @@ fn step(h: u32, b: u8) -> u32
     wrapping_mul(h ^ b as u32, PRIME)
 }
 
-// The hash with the bytes of v more, the lowest first.
-fn more32(h: u32, v: u32) -> u32
-    ensures { λ r. ⌜ r ≡ F.more h (bytes 4 v) ⌝ }
+// The hash with the eight bytes of v more, the lowest first.
+pub fn more64(h: u32, v: u64) -> u32
+    ensures { λ r. ⌜ r ≡ F.more h (bytes 8 v) ⌝ }
 {
     let v1 = v / 256;
     let v2 = v1 / 256;
     let v3 = v2 / 256;
+    let v4 = v3 / 256;
+    let v5 = v4 / 256;
+    let v6 = v5 / 256;
+    let v7 = v6 / 256;
     let h = step(h, (v % 256) as u8);
     let h = step(h, (v1 % 256) as u8);
     let h = step(h, (v2 % 256) as u8);
-    step(h, (v3 % 256) as u8)
-}
-
-pub fn more64(h: u32, v: u64) -> u32
-    ensures { λ r. ⌜ r ≡ F.more h (bytes 8 v) ⌝ }
-{
-    let h = more32(h, (v % 0x1_0000_0000) as u32);
-    more32(h, (v / 0x1_0000_0000) as u32)
+    let h = step(h, (v3 % 256) as u8);
+    let h = step(h, (v4 % 256) as u8);
+    let h = step(h, (v5 % 256) as u8);
+    let h = step(h, (v6 % 256) as u8);
+    step(h, (v7 % 256) as u8)
 }
 
 pub fn fnv1a(s: &[u8]) -> u32

@@ -100,9 +100,10 @@ fn beside(name: &str, Both { index, plain, .. }: &Both, map: &Map, keys: &[Key])
         assert_eq!(entry.as_ref(), map.get(&key));
     }
     let units = (keys.len(), "call");
-    row(name, units, keys, |&key| proved_lookup(index, key), |&key| plain.lookup(key));
+    let proved = |&(space, pc): &Key| boundary::index_lookup(index, hilofanur::Key { space, pc });
+    row(name, units, keys, proved, |&key| plain.lookup(key));
     let name = format!("{name}, HashMap");
-    row(&name, units, keys, |&key| proved_lookup(index, key), |&key| map.get(&key).copied());
+    row(&name, units, keys, proved, |&key| map.get(&key).copied());
 }
 
 /// Placings under so many keys in turn.
