@@ -104,7 +104,7 @@ module _ (m : List ℕ) (space pc : ℕ) where
 abbrev pub gone : Entry → ℕ → Entry → Bool
 gone e room x =
     not (eqb (x .length) 0)
-    && (eqb (x .space) (e .space) && eqb (x .pc) (e .pc) || (ltb (x .start) (e .start + e .length) && ltb (e .start - x .start) (x .length) || eqb room 0))
+    && (eqb (x .space) (e .space) && eqb (x .pc) (e .pc) || (ltb (x .start) (e .start + e .length) && ltb (e .start) (x .start + x .length) || eqb room 0))
 
 abbrev pub left : Entry → ℕ → Entry → ℕ
 left e room x = cond (gone e room x) room (room - cond (eqb (x .length) 0) 0 1)

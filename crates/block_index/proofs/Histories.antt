@@ -17,7 +17,7 @@ use Rattle.block_log.proofs.Tests.{by-test, by-eqb, by-ltb}
 use Rattle.block_index.specs.declared.Placed.{Placed}
 use Rattle.block_index.specs.declared.Found.{Found}
 use Rattle.block_index.specs.Model as Model
-use Rattle.block_index.specs.Model.{Block, end, overlap, same-key, without, with-room}
+use Rattle.block_index.specs.Model.{Block, end, overlap, without, with-room}
 use Rattle.block_index.specs.Index as Index
 use Rattle.block_index.specs.Index.{start-for, compacted, Result, result, placed-at}
 use Rattle.block_index.specs.History as History
@@ -148,8 +148,8 @@ module _ {size : ℕ} {m store : List ℕ} {bs : List Block} (g : Good size m st
   placing a =
       let f = fitting size bs (length code) (a .1) in
       let store′ = over store (new .start) code in
-      let kept-bs = without (overlap new) (without (same-key new) bs) in
-      let n : length kept-bs ≤ 512 = omega (arith, without-le (overlap new) (without (same-key new) bs), without-le (same-key new) bs, g .few) in
+      let kept-bs = without (overlap new) (without (Model.has-key space pc) bs) in
+      let n : length kept-bs ≤ 512 = omega (arith, without-le (overlap new) (without (Model.has-key space pc) bs), without-le (Model.has-key space pc) bs, g .few) in
       let fine : Fine size store′ new =
       record { space = fit .0; pc = fit .1; count = fit .2; some = a .0; inside = f; holds = over-there store (new .start) code (rw (g .long) f) } in
       let v : Views size store′ (sweep (entry-of new) 511 (g .es)) (take 511 kept-bs) = stays new (kept size store new (g .long) f) 511 (g .views) in

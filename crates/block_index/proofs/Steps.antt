@@ -10,7 +10,7 @@ use lib.ListN.{length}
 use borrow.Author.Tests.{eq-eqb, ne-eqb, lt-ltb, le-ltb, ltb-false}
 use Rattle.block_log.specs.declared.Entry.{Entry}
 use Rattle.block_log.specs.Log.{places, bucket, cell, used, start-at, length-at, next-at, count-at}
-use Rattle.block_log.proofs.Tests.{by-eqb}
+use Rattle.block_log.proofs.Tests.{by-eqb, by-ltb}
 use Rattle.block_index.specs.Index.{key-at, block-at, walk, place-of, found-at, lookup, start-for, overlap-at, puts-out, swept-at, room-at, swept, refilled-at, refilled, result, placed-at, place}
 use Rattle.block_index.specs.Model as Model
 use Rattle.block_index.specs.declared.Found.{Found}
@@ -108,14 +108,14 @@ module _ (m : List ℕ) (size n u s l : ℕ) (eu : u ≡ used m) (es : s ≡ sta
 
 -- ---- the sweep
 
-some : (l : ℕ) → not (eqb l 0) ≡ ltb 0 l
-some zero = refl
-some (suc l) = rw (ne-eqb (suc l) 0 (λ e. omega arith), lt-ltb 0 (suc l) (omega arith))
+module _ (m : List ℕ) (start end p s : ℕ) (es : s ≡ start-at m p) (h : s < end) where
+  pub overlap-before : start < s → true ≡ overlap-at m start end p
+  overlap-before k = rw (← es, lt-ltb s end h, lt-ltb start (s + length-at m p) (omega arith))
 
--- a block that starts behind the new one's start
-pub overlap-inside : (m : List ℕ) (start end p s l : ℕ) → s ≡ start-at m p → l ≡ length-at m p → start < s → s < end
-    → not (eqb l 0) ≡ overlap-at m start end p
-overlap-inside m start end p s l es el h k = let z : start - s ≡ 0 = omega arith in rw (← es, ← el, lt-ltb s end k, z) (some l)
+  pub overlap-behind : (l : ℕ) → l ≡ length-at m p → s ≤ start → ltb (start - s) l ≡ overlap-at m start end p
+  overlap-behind l el k =
+      rw (← es, ← el, lt-ltb s end h)
+      (by-ltb (λ (t : Bool). ltb (start - s) l ≡ t) start (s + l) (λ q. lt-ltb (start - s) l (omega arith)) (λ q. le-ltb (start - s) l (omega arith)))
 
 -- a block that stays has room
 either : (a b : Bool) (room : ℕ) → (a || (b || eqb room 0)) ≡ false → 0 < room

@@ -5,17 +5,17 @@ use mathlib.Core.List.{List, [], _∷_, map}
 use Prim.Native.Nat.{ℕ, zero, suc, _-_, _^_, _≤_, _<_}
 use native.Mathlib.Nat.{sub-zero}
 use native.Mathlib.Omega.{arith}
-use lib.Dec.{eqb, ltb}
+use lib.Dec.{eqb}
 use lib.Seq.{take-nil}
 use lib.ListN.{length, take, length-map}
-use borrow.Author.Tests.{eq-eqb, ne-eqb, lt-ltb, le-ltb}
+use borrow.Author.Tests.{eq-eqb, ne-eqb}
 use Rattle.block_log.specs.declared.Entry.{Entry}
 use Rattle.block_log.specs.Log.{bucket, entry-at}
 use Rattle.block_log.proofs.Laws.{Fits, marked}
-use Rattle.block_log.proofs.Tests.{by-test, by-ltb}
+use Rattle.block_log.proofs.Tests.{by-test}
 use Rattle.rules.specs.Refusals as Refusals
 use Rattle.block_index.specs.Model as Model
-use Rattle.block_index.specs.Model.{Block, end, same-key, overlap, without}
+use Rattle.block_index.specs.Model.{Block, end, overlap, without}
 use Rattle.block_index.specs.Index.{found-at, walk, refilled}
 use Rattle.block_index.specs.History.{All, Holds}
 use Rattle.block_index.proofs.Chains.{Rows, newest, Refills, refill-none, refill-one, walk-step, sweep}
@@ -86,16 +86,9 @@ module _ {size : ℕ} {store : List ℕ} where
 
 -- ---- the sweep
 
-overlap-of : (b c : Block) → 0 < length (c .code)
-    → (ltb (c .start) (end b) && ltb (b .start - c .start) (length (c .code))) ≡ overlap b c
-overlap-of b c h =
-    ap (λ (t : Bool). ltb (c .start) (end b) && t)
-    (by-ltb (λ (t : Bool). ltb (b .start - c .start) (length (c .code)) ≡ t) (b .start) (end c)
-    (λ l. lt-ltb (b .start - c .start) (length (c .code)) (omega arith)) (λ l. le-ltb (b .start - c .start) (length (c .code)) (omega arith)))
-
 module _ {size : ℕ} {store store′ : List ℕ} (b : Block) (keeps : (c : Block) → overlap b c ≡ false → Fine size store c → Fine size store′ c) where
   abbrev stay : List Block → List Block
-  stay bs = without (overlap b) (without (same-key b) bs)
+  stay bs = without (overlap b) (without (Model.has-key (b .space) (b .pc)) bs)
 
   module _ (xs : List Entry) where
     stays-live : (c : Block) (bs : List Block) → Fine size store c
@@ -103,7 +96,7 @@ module _ {size : ℕ} {store store′ : List ℕ} (b : Block) (keeps : (c : Bloc
         → (key over : Bool) (room : ℕ) → overlap b c ≡ over
         → let goes = key || (over || eqb room 0) in
         Views size store′ (marked goes (entry-of c) ∷ sweep (entry-of b) (cond goes room (room - 1)) xs)
-        (take room (without (overlap b) (cond key (without (same-key b) bs) (c ∷ without (same-key b) bs))))
+        (take room (without (overlap b) (cond key (without (Model.has-key (b .space) (b .pc)) bs) (c ∷ without (Model.has-key (b .space) (b .pc)) bs))))
     stays-live c bs f v true over room q = dead refl (v room)
     stays-live c bs f v false true room q = rw q (dead refl (v room))
     stays-live c bs f v false false zero q = dead refl (v zero)
@@ -116,4 +109,4 @@ module _ {size : ℕ} {store store′ : List ℕ} (b : Block) (keeps : (c : Bloc
   stays room none = rw (take-nil {A = Block} room) none
   stays room (dead {x = x} z v) = rw (eq-eqb (x .length) 0 z, sub-zero room) (dead z (stays room v))
   stays room (live {xs = xs} {b = c} {bs = bs} f v) =
-      rw (ne-eqb (length (c .code)) 0 (λ e. omega (arith, f .some)), overlap-of b c (f .some)) (stays-live xs c bs f (λ r. stays r v) (same-key b c) (overlap b c) room refl)
+      rw (ne-eqb (length (c .code)) 0 (λ e. omega (arith, f .some))) (stays-live xs c bs f (λ r. stays r v) (Model.has-key (b .space) (b .pc) c) (overlap b c) room refl)

@@ -50,7 +50,7 @@ start-for m size n =
 
 -- whether the block at a place shares a byte with those from start up to end
 abbrev pub overlap-at : List ℕ → ℕ → ℕ → ℕ → Bool
-overlap-at m start end p = ltb (start-at m p) end && ltb (start - start-at m p) (length-at m p)
+overlap-at m start end p = ltb (start-at m p) end && ltb start (start-at m p + length-at m p)
 
 -- whether a new block puts out the one at a place, where `room` more may stay
 abbrev pub puts-out : List ℕ → Entry → ℕ → ℕ → Bool

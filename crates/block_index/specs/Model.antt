@@ -31,8 +31,8 @@ abbrev pub start : ℕ → List Block → ℕ → ℕ
 start size [] n = 0
 start size (last ∷ older) n = cond (ltb size (end last + n)) 0 (end last)
 
-abbrev pub same-key : Block → Block → Bool
-same-key a b = eqb (b .space) (a .space) && eqb (b .pc) (a .pc)
+abbrev pub has-key : ℕ → ℕ → Block → Bool
+has-key space pc b = eqb (b .space) space && eqb (b .pc) pc
 
 -- whether two blocks share a byte
 abbrev pub overlap : Block → Block → Bool
@@ -50,7 +50,7 @@ with-room entries bs = cond (ltb (length bs) entries) bs (take (length bs - 1) b
 -- dropped are the block under the same key, then every one that the new one overlaps, then the oldest if the index is still
 -- full, and no other
 abbrev pub placed : ℕ → List Block → Block → List Block
-placed entries bs b = b ∷ with-room entries (without (overlap b) (without (same-key b) bs))
+placed entries bs b = b ∷ with-room entries (without (overlap b) (without (has-key (b .space) (b .pc)) bs))
 
 -- what placing answers
 abbrev pub place : ℕ → List Block → ℕ → Placed
@@ -58,9 +58,6 @@ place size bs n =
     cond (refused size n) (record { refusal = Refusals.code-length; start = 0 }) (record { refusal = Refusals.accepted; start = start size bs n })
 
 -- ---- lookup
-
-abbrev pub has-key : ℕ → ℕ → Block → Bool
-has-key space pc b = eqb (b .space) space && eqb (b .pc) pc
 
 abbrev pub no-block : Found
 no-block = record { refusal = Refusals.no-block; start = 0; length = 0; count = 0 }

@@ -133,11 +133,10 @@ fn overlap_at(m: &[u8], start: u64, end: u64, p: u16) -> bool
     if end <= other {
         return false;
     }
-    let length = block_log::length_at(m, p);
     if start < other {
-        return length != 0;
+        return true;
     }
-    start - other < length
+    start - other < block_log::length_at(m, p)
 }
 
 // Whether a new block puts out the one at a place, where `room` more may stay.

@@ -3,7 +3,12 @@ use Rattle.block_index.proofs.insert.Statement.{statement}
 use Rattle.block_index.proofs.insert.Tie as tie
 
 returns : tie.Need-returns
-returns c = rw (c .before .before .push .ensures, c .before .before .before .before .before .before .make-room .ensures, c .before .before .before .before .before .before .before .before .before .before .sweep .ensures)
+returns c =
+    rw (
+      c .before .before .push .ensures,
+      c .before .before .before .before .before .before .make-room .ensures,
+      c .before .before .before .before .before .before .before .before .before .before .sweep .ensures,
+    )
 
 pub insert-spec : {M : Type 1} → statement M
 insert-spec =

@@ -16,19 +16,33 @@ abbrev μ-loop : tie.MeasureT-loop
 μ-loop m space pc p₀ p = p
 
 loop-holds : tie.Need-loop-holds Inv-loop μ-loop
-loop-holds c = (c .cell .ensures .1, walk-start (c .before .before .before .args .m .now) (c .before .before .before .args .space) (c .before .before .before .args .pc) (c .before .bucket .result) (c .cell .result) (c .before .bucket .ensures .0) (c .cell .ensures .0) (c .cell .ensures .1))
+loop-holds c =
+    let a = c .before .before .before .args in
+    (c .cell .ensures .1, walk-start (a .m .now) (a .space) (a .pc) (c .before .bucket .result) (c .cell .result) (c .before .bucket .ensures .0) (c .cell .ensures .0) (c .cell .ensures .1))
 
 returns : tie.Need-returns Inv-loop μ-loop
-returns c = (sym (walk-hit (c .before .before .before .before .before .before .before .args .m .now) (c .before .before .before .before .before .before .before .args .space) (c .before .before .before .before .before .before .before .args .pc) (c .before .before .before .loop .p) (c .before .before .loop-test .taken) (sym (c .before .block-at .ensures) ∙ c .if1 .taken)) ∙ c .before .before .before .loop .inv .1, c .before .before .before .loop .inv .0)
+returns c =
+    let a = c .before .before .before .before .before .before .before .args in
+    let l = c .before .before .before .loop in
+    (sym (walk-hit (a .m .now) (a .space) (a .pc) (l .p) (c .before .before .loop-test .taken) (sym (c .before .block-at .ensures) ∙ c .if1 .taken)) ∙ l .inv .1, l .inv .0)
 
 returns-2 : tie.Need-returns-2 Inv-loop μ-loop
-returns-2 c = (sym (walk-end (c .before .before .before .before .before .before .before .before .before .args .m .now) (c .before .before .before .before .before .before .before .before .before .args .space) (c .before .before .before .before .before .before .before .before .before .args .pc) (c .before .before .before .before .before .loop .p) (c .before .before .before .before .loop-test .taken) (sym (c .before .before .before .block-at .ensures) ∙ c .before .before .if1 .left) (omega (arith, c .before .next-at .ensures .0))) ∙ c .before .before .before .before .before .loop .inv .1, omega arith)
+returns-2 c =
+    let a = c .before .before .before .before .before .before .before .before .before .args in
+    let l = c .before .before .before .before .before .loop in
+    (sym (walk-end (a .m .now) (a .space) (a .pc) (l .p) (c .before .before .before .before .loop-test .taken) (sym (c .before .before .before .block-at .ensures) ∙ c .before .before .if1 .left) (omega (arith, c .before .next-at .ensures .0))) ∙ l .inv .1, omega arith)
 
 loop-again : tie.Need-loop-again Inv-loop μ-loop
-loop-again c = (c .before .next-at .ensures .1, rw (c .before .next-at .ensures .0) (sym (walk-on (c .before .before .before .before .before .before .before .before .before .args .m .now) (c .before .before .before .before .before .before .before .before .before .args .space) (c .before .before .before .before .before .before .before .before .before .args .pc) (c .before .before .before .before .before .loop .p) (c .before .before .before .before .loop-test .taken) (sym (c .before .before .before .block-at .ensures) ∙ c .before .before .if1 .left) (omega (arith, c .before .next-at .ensures .0))) ∙ c .before .before .before .before .before .loop .inv .1))
+loop-again c =
+    let a = c .before .before .before .before .before .before .before .before .before .args in
+    let l = c .before .before .before .before .before .loop in
+    (c .before .next-at .ensures .1, rw (c .before .next-at .ensures .0) (sym (walk-on (a .m .now) (a .space) (a .pc) (l .p) (c .before .before .before .before .loop-test .taken) (sym (c .before .before .before .block-at .ensures) ∙ c .before .before .if1 .left) (omega (arith, c .before .next-at .ensures .0))) ∙ l .inv .1))
 
 returns-3 : tie.Need-returns-3 Inv-loop μ-loop
-returns-3 c = (walk-none (c .before .before .before .before .before .args .m .now) (c .before .before .before .before .before .args .space) (c .before .before .before .before .before .args .pc) (c .before .loop .p) _ (omega arith) (c .before .loop .inv .1), omega arith)
+returns-3 c =
+    let a = c .before .before .before .before .before .args in
+    let l = c .before .loop in
+    (walk-none (a .m .now) (a .space) (a .pc) (l .p) _ (omega arith) (l .inv .1), omega arith)
 
 pub place-of-spec : {M : Type 1} → statement M
 place-of-spec =

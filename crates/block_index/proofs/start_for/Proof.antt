@@ -6,19 +6,29 @@ use Rattle.block_index.proofs.start_for.Statement.{statement}
 use Rattle.block_index.proofs.start_for.Tie as tie
 
 returns : tie.Need-returns
-returns c = (start-none (c .before .before .before .args .m .now) (c .before .before .before .args .size) (c .before .before .before .args .n) _ _ _ (c .before .used .ensures .0) refl refl (c .if1 .taken), omega arith)
+returns c =
+    let a = c .before .before .before .args in
+    (start-none (a .m .now) (a .size) (a .n) _ _ _ (c .before .used .ensures .0) refl refl (c .if1 .taken), omega arith)
 
 returns-2 : tie.Need-returns-2
-returns-2 c = (start-front (c .before .before .before .before .before .before .args .m .now) (c .before .before .before .before .before .before .args .size) (c .before .before .before .before .before .before .args .n) _ _ _ (c .before .before .before .before .used .ensures .0) (c .before .before .start-at .ensures) (c .before .length-at .ensures) (c .before .before .before .if1 .left) (omega arith), omega arith)
+returns-2 c =
+    let a = c .before .before .before .before .before .before .args in
+    (start-front (a .m .now) (a .size) (a .n) _ _ _ (c .before .before .before .before .used .ensures .0) (c .before .before .start-at .ensures) (c .before .length-at .ensures) (c .before .before .before .if1 .left) (omega arith), omega arith)
 
 returns-3 : tie.Need-returns-3
-returns-3 c = (start-front (c .before .before .before .before .before .before .before .args .m .now) (c .before .before .before .before .before .before .before .args .size) (c .before .before .before .before .before .before .before .args .n) _ _ _ (c .before .before .before .before .before .used .ensures .0) (c .before .before .before .start-at .ensures) (c .before .before .length-at .ensures) (c .before .before .before .before .if1 .left) (omega arith), omega arith)
+returns-3 c =
+    let a = c .before .before .before .before .before .before .before .args in
+    (start-front (a .m .now) (a .size) (a .n) _ _ _ (c .before .before .before .before .before .used .ensures .0) (c .before .before .before .start-at .ensures) (c .before .before .length-at .ensures) (c .before .before .before .before .if1 .left) (omega arith), omega arith)
 
 returns-4 : tie.Need-returns-4
-returns-4 c = (start-front (c .before .before .before .before .before .before .before .before .args .m .now) (c .before .before .before .before .before .before .before .before .args .size) (c .before .before .before .before .before .before .before .before .args .n) _ _ _ (c .before .before .before .before .before .before .used .ensures .0) (c .before .before .before .before .start-at .ensures) (c .before .before .before .length-at .ensures) (c .before .before .before .before .before .if1 .left) (omega arith), omega arith)
+returns-4 c =
+    let a = c .before .before .before .before .before .before .before .before .args in
+    (start-front (a .m .now) (a .size) (a .n) _ _ _ (c .before .before .before .before .before .before .used .ensures .0) (c .before .before .before .before .start-at .ensures) (c .before .before .before .length-at .ensures) (c .before .before .before .before .before .if1 .left) (omega arith), omega arith)
 
 returns-5 : tie.Need-returns-5
-returns-5 c = (start-behind (c .before .before .before .before .before .before .before .before .args .m .now) (c .before .before .before .before .before .before .before .before .args .size) (c .before .before .before .before .before .before .before .before .args .n) _ _ _ (c .before .before .before .before .before .before .used .ensures .0) (c .before .before .before .before .start-at .ensures) (c .before .before .before .length-at .ensures) (c .before .before .before .before .before .if1 .left) (omega arith), omega arith)
+returns-5 c =
+    let a = c .before .before .before .before .before .before .before .before .args in
+    (start-behind (a .m .now) (a .size) (a .n) _ _ _ (c .before .before .before .before .before .before .used .ensures .0) (c .before .before .before .before .start-at .ensures) (c .before .before .before .length-at .ensures) (c .before .before .before .before .before .if1 .left) (omega arith), omega arith)
 
 pub start-for-spec : {M : Type 1} → statement M
 start-for-spec =

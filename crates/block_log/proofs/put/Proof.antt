@@ -5,7 +5,15 @@ use Rattle.block_log.proofs.put.Tie as tie
 
 returns : tie.Need-returns
 unfolding put
-returns c = rw (c .before .before .put-count .ensures, c .before .before .before .before .before .before .store16 .ensures, c .before .before .before .before .before .before .before .before .before .before .store644 .ensures, c .before .before .before .before .before .before .before .before .before .before .before .before .before .before .store643 .ensures, c .before .before .before .before .before .before .before .before .before .before .before .before .before .before .before .before .before .before .store642 .ensures, c .before .before .before .before .before .before .before .before .before .before .before .before .before .before .before .before .before .before .before .before .before .before .store64 .ensures)
+returns c =
+    rw (
+      c .before .before .put-count .ensures,
+      c .before .before .before .before .before .before .store16 .ensures,
+      c .before .before .before .before .before .before .before .before .before .before .store644 .ensures,
+      c .before .before .before .before .before .before .before .before .before .before .before .before .before .before .store643 .ensures,
+      c .before .before .before .before .before .before .before .before .before .before .before .before .before .before .before .before .before .before .store642 .ensures,
+      c .before .before .before .before .before .before .before .before .before .before .before .before .before .before .before .before .before .before .before .before .before .before .store64 .ensures,
+    )
 
 pub put-spec : {M : Type 1} → statement M
 put-spec =

@@ -6,7 +6,17 @@ use Rattle.fnv1a.proofs.more64.Tie as tie
 
 returns : tie.Need-returns
 unfolding F.more bytes
-returns c = rw (c .step8 .ensures, c .before .step7 .ensures, c .before .before .step6 .ensures, c .before .before .before .step5 .ensures, c .before .before .before .before .step4 .ensures, c .before .before .before .before .before .step3 .ensures, c .before .before .before .before .before .before .step2 .ensures, c .before .before .before .before .before .before .before .step .ensures)
+returns c =
+    rw (
+      c .step8 .ensures,
+      c .before .step7 .ensures,
+      c .before .before .step6 .ensures,
+      c .before .before .before .step5 .ensures,
+      c .before .before .before .before .step4 .ensures,
+      c .before .before .before .before .before .step3 .ensures,
+      c .before .before .before .before .before .before .step2 .ensures,
+      c .before .before .before .before .before .before .before .step .ensures,
+    )
 
 pub more64-spec : {M : Type 1} → statement M
 more64-spec =
