@@ -1,18 +1,16 @@
 -- What each operation answers over the C boundary, and each lent byte afterwards. Definitions only.
 use mathlib.Core.Bool.{Bool, cond}
-use mathlib.Core.List.{List, [], _∷_, _++_}
+use mathlib.Core.List.{List}
 use Prim.Native.Nat.{ℕ}
 use lib.Dec.{eqb}
-use Rattle.le.specs.Le.{load, numbers, all-bytes}
+use Rattle.le.specs.Le.{all-bytes}
 use Rattle.emit_native.specs.declared.Host.{Host}
 use Rattle.translator.specs.Translate as T
 use Rattle.code_cache.specs.Place as P
-use Rattle.rv64_run.specs.declared.run.Hart.{Hart}
 use Rattle.rv64_run.specs.declared.run.Answer as RvAnswer
 use Rattle.rv64_run.specs.Run.{number, answer}
-use Rattle.a64_exec.specs.declared.state.A64State.{A64State}
 use Rattle.a64_run.specs.Run as A64
-use Rattle.a64_alu.specs.Nzcv.{flags-of, nzcv-of}
+use Rattle.state_bytes.specs.States.{a64-state, a64-bytes, rv64-hart}
 use Rattle.hilofanur.specs.declared.TranslateAnswer.{TranslateAnswer}
 use Rattle.hilofanur.specs.declared.PlaceAnswer.{PlaceAnswer}
 use Rattle.hilofanur.specs.declared.A64RunAnswer.{A64RunAnswer}
@@ -77,13 +75,6 @@ pub record A64Result : Type 0 where
 abbrev pub a64-result : A64RunAnswer → List ℕ → List ℕ → A64Result
 a64-result a state mem = record { answer = a; state = state; memory = mem }
 
--- X0 to X30, SP and NZCV, eight bytes each
-abbrev pub a64-state : List ℕ → A64State
-a64-state m = record { x = numbers 8 31 m; sp = load 8 m 248; flags = flags-of (load 8 m 256) }
-
-abbrev pub a64-bytes : A64State → List ℕ
-a64-bytes s = all-bytes 8 (s .x ++ (s .sp ∷ nzcv-of (s .flags) ∷ []))
-
 -- a refusal leaves the state's bytes
 abbrev pub a64-of : List ℕ → A64.Result → A64Result
 a64-of state r =
@@ -101,10 +92,6 @@ pub record Rv64Result : Type 0 where
 
 abbrev pub rv64-result : Rv64RunAnswer → List ℕ → Rv64Result
 rv64-result a registers = record { answer = a; registers = registers }
-
--- the 32 registers, eight bytes each, and the PC
-abbrev pub rv64-hart : List ℕ → ℕ → Hart
-rv64-hart m pc = record { x = numbers 8 32 m; pc = pc }
 
 -- a refusal leaves the registers' bytes
 abbrev pub rv64-of : List ℕ → RvAnswer.Answer → Rv64Result

@@ -6,11 +6,9 @@ ghost use Rattle.listing.specs.Listing.{Lists};
 ghost use Rattle.block_log.specs.Log.{emptied};
 ghost use Rattle.block_index.specs.History.{Looks, Places};
 ghost use Rattle.hilofanur.specs.Answers as Answers;
-
-mod a64_state;
-mod rv64_hart;
-
 use emit_native::Host;
+use state_bytes::a64_state;
+use state_bytes::rv64_hart;
 
 // The refusal, 0 where the block was written; its length in bytes; its count of instructions; 1 where a helper ended it.
 #[repr(C)]

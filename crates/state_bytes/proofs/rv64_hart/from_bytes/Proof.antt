@@ -1,6 +1,6 @@
 use borrow.Author.Needs.{needs}
-use Rattle.hilofanur.proofs.rv64_hart.from_bytes.Statement.{statement}
-use Rattle.hilofanur.proofs.rv64_hart.from_bytes.Tie as tie
+use Rattle.state_bytes.proofs.rv64_hart.from_bytes.Statement.{statement}
+use Rattle.state_bytes.proofs.rv64_hart.from_bytes.Tie as tie
 
 returns : tie.Need-returns
 returns c = rw (c .before .read64 .ensures)

@@ -2,12 +2,12 @@
 ghost use mathlib.Core.Path.{_≡_};
 ghost use lib.ListN.{length};
 ghost use Rattle.le.specs.Le.{all-bytes};
-ghost use Rattle.hilofanur.specs.Answers as Answers;
+ghost use Rattle.state_bytes.specs.States as States;
 use rv64_run::run::Hart;
 
 pub fn from_bytes(b: &[u8], pc: u64) -> Hart
     requires { ⌜ length (now b) ≡ 256 ⌝ }
-    ensures { λ r. ⌜ r ≡ Answers.rv64-hart (now (b .entry)) pc ⌝ }
+    ensures { λ r. ⌜ r ≡ States.rv64-hart (now (b .entry)) pc ⌝ }
 {
     let mut x = [0u64; 32];
     le::read64(b, &mut x);

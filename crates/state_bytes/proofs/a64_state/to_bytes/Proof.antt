@@ -7,8 +7,8 @@ use Rattle.le.specs.Le.{store, all-bytes}
 use Rattle.le.specs.Parts.{over}
 use Rattle.le.proofs.Lists.{over-more, over-all}
 use borrow.Author.Needs.{needs}
-use Rattle.hilofanur.proofs.a64_state.to_bytes.Statement.{statement}
-use Rattle.hilofanur.proofs.a64_state.to_bytes.Tie as tie
+use Rattle.state_bytes.proofs.a64_state.to_bytes.Statement.{statement}
+use Rattle.state_bytes.proofs.a64_state.to_bytes.Tie as tie
 
 -- two numbers after those that stand at the front, up to the end
 two-more : (vs m : List ℕ) (v w i : ℕ) → i ≡ 8 * length vs → length m ≡ i + 16

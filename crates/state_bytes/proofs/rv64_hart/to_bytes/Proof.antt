@@ -3,8 +3,8 @@ use mathlib.Core.Path.{_≡_, _∙_}
 use lib.ListN.{length}
 use Rattle.le.proofs.Lists.{over-all}
 use borrow.Author.Needs.{needs}
-use Rattle.hilofanur.proofs.rv64_hart.to_bytes.Statement.{statement}
-use Rattle.hilofanur.proofs.rv64_hart.to_bytes.Tie as tie
+use Rattle.state_bytes.proofs.rv64_hart.to_bytes.Statement.{statement}
+use Rattle.state_bytes.proofs.rv64_hart.to_bytes.Tie as tie
 
 write64-requires : tie.Need-write64-requires
 write64-requires c κs = let l : length (c .before .before .before .before .args .h .x) ≡ 32 = search needs in omega arith
