@@ -186,7 +186,7 @@ pub extern "C" fn hilofanur_list(block: &[u8], output: &mut [u8]) -> ListAnswer
 
 // index: block_log's layout. Emptied once, it is the calls' own.
 #[no_mangle]
-pub extern "C" fn hilofanur_index_empty(index: &mut [u8; 45056])
+pub extern "C" fn hilofanur_index_empty(index: &mut [u8; block_log::INDEX_BYTES])
     ensures { λ r. ⌜ now (index .exit) ≡ emptied (now (index .entry)) ⌝ }
 {
     block_index::empty(index);
@@ -194,7 +194,7 @@ pub extern "C" fn hilofanur_index_empty(index: &mut [u8; 45056])
 
 #[no_mangle]
 pub extern "C" fn hilofanur_index_place(
-    index: &mut [u8; 45056],
+    index: &mut [u8; block_log::INDEX_BYTES],
     store: &mut [u8],
     space: u64,
     pc: u64,
@@ -212,7 +212,7 @@ pub extern "C" fn hilofanur_index_place(
 
 #[no_mangle]
 pub extern "C" fn hilofanur_index_lookup(
-    index: &[u8; 45056],
+    index: &[u8; block_log::INDEX_BYTES],
     space: u64,
     pc: u64,
 ) -> IndexLookupAnswer
