@@ -105,7 +105,7 @@ branches =
     ∷ (0b111, Cond.Geu)
     ∷ []
 
--- MISC-MEM, by funct3: FENCE, which does nothing, and FENCE.I ('Zifencei'), whatever their other fields
+-- MISC-MEM, by funct3: FENCE, which does nothing, and FENCE.I ('Zifencei'), which ends a block, whatever their other fields
 unfoldable pub fences : Table Instr
 fences =
     (0b000, Instr.Nop)

@@ -29,7 +29,7 @@ abbrev pub ended : List ℕ → ℕ → Step
 ended x pc = record { x = x; flow = Flow.Ended pc }
 
 -- an instruction of n bytes at pc. JAL and JALR put the address after them in rd; JALR reads rs1 before that, and clears
--- bit 0 of the sum. A jump or a branch ends the block (document 01, rule 5)
+-- bit 0 of the sum. A jump or a branch ends the block (document 01, rule 5), and so does FENCE.I (document 02, No. 3)
 unfoldable pub exec : Instr → ℕ → ℕ → List ℕ → Step
 exec (Instr.Op k rd rs1 rs2) n pc x = next (write x rd (value k (read x rs1) (read x rs2))) (add pc n)
 exec (Instr.OpImm k rd rs1 imm) n pc x = next (write x rd (value k (read x rs1) imm)) (add pc n)
@@ -40,7 +40,7 @@ exec (Instr.Jalr rd rs1 imm) n pc x = ended (write x rd (add pc n)) (add (read x
 exec (Instr.Branch k rs1 rs2 imm) n pc x =
     ended x (cond (taken k (read x rs1) (read x rs2)) (add pc imm) (add pc n))
 exec Instr.Nop n pc x = next x (add pc n)
-exec Instr.FenceI n pc x = next x (add pc n)
+exec Instr.FenceI n pc x = ended x (add pc n)
 exec Instr.Helper n pc x = record { x = x; flow = Flow.Helper }
 exec Instr.Uncovered n pc x = record { x = x; flow = Flow.Uncovered }
 

@@ -28,7 +28,7 @@ applied (Effect.Set rd v) pc x = next (write x rd v) pc
 applied (Effect.Link rd to) pc x = X.ended (write x rd pc) to
 applied (Effect.Ended to) pc x = X.ended x to
 applied Effect.Next pc x = next x pc
-applied Effect.FenceI pc x = next x pc
+applied Effect.FenceI pc x = X.ended x pc
 applied Effect.Helper pc x = record { x = x; flow = Flow.Helper }
 applied Effect.Uncovered pc x = record { x = x; flow = Flow.Uncovered }
 

@@ -7,7 +7,7 @@ ghost use Rattle.rv64.specs.Parts as S;
 pub enum Flow {
     // goes on at this PC
     Next(u64),
-    // a jump or a branch ended the block; goes on at this PC
+    // a jump, a branch or FENCE.I ended the block; goes on at this PC
     Ended(u64),
     Helper,
     Uncovered,
@@ -29,7 +29,7 @@ pub enum Effect {
     Ended(u64),
     // goes on after the instruction
     Next,
-    // the same, after FENCE.I
+    // FENCE.I: the block's end; goes on after the instruction
     FenceI,
     Helper,
     Uncovered,
@@ -95,7 +95,7 @@ pub fn apply(x: &mut [u64; 32], e: Effect, next: u64) -> Flow
         }
         Effect::Ended(to) => Flow::Ended(to),
         Effect::Next => Flow::Next(next),
-        Effect::FenceI => Flow::Next(next),
+        Effect::FenceI => Flow::Ended(next),
         Effect::Helper => Flow::Helper,
         Effect::Uncovered => Flow::Uncovered,
     }

@@ -58,7 +58,7 @@ module _ (h : Hart) (go : ℕ → Hart → Ran) (x0 : ℕ) (p : (size : ℕ) (h 
   by-first (Fetched.Found (Instr.Jalr rd rs1 imm) size) = refl
   by-first (Fetched.Found (Instr.Branch k rs1 rs2 imm) size) = refl
   by-first (Fetched.Found Instr.Nop size) = went size _
-  by-first (Fetched.Found Instr.FenceI size) = went size _
+  by-first (Fetched.Found Instr.FenceI size) = refl
   by-first (Fetched.Found Instr.Helper size) = refl
   by-first (Fetched.Found Instr.Uncovered size) = refl
 

@@ -36,7 +36,7 @@ pub enum Stepped {
     NotFetched,
     // goes on at this PC, after an instruction of this many bytes
     Next(u64, usize),
-    // a jump or a branch ended the block; goes on at this PC
+    // a jump, a branch or FENCE.I ended the block; goes on at this PC
     Ended(u64),
     Helper,
     Uncovered,
