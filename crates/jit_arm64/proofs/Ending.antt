@@ -2,6 +2,8 @@
 use Prim.Native.Nat.{ℕ, _+_, _≤_}
 use native.Mathlib.Omega.{arith}
 use mathlib.Core.Path.{_≡_, refl, ap, _∙_}
+use mathlib.Core.Bool.{Bool}
+use mathlib.Core.Option.{Option}
 use mathlib.Core.List.{List, [], _∷_, _++_, flatten}
 use lib.ListN.{length, take, length-take}
 use Rattle.rules.specs.Limits.{end-words, max-words, max-instrs}
@@ -15,9 +17,8 @@ use Rattle.emit_native.proofs.Size.{size, size-append, size-le}
 use Rattle.jit_arm64.specs.declared.block.Stop.{Stop}
 use Rattle.jit_arm64.specs.declared.block.Stop.the-variants.{Limit, Ended, Helper, Uncovered, NotFetched}
 use Rattle.jit_arm64.specs.Block.{Walk, return-calls, next-calls, end-calls}
-use Rattle.jit_arm64.specs.Parts.{BlockOf}
+use Rattle.jit_arm64.specs.Parts.{end-room, Walks, BlockOf}
 use Rattle.jit_arm64.proofs.Emitting.{small, words-append, words-size}
-use Rattle.jit_arm64.proofs.Walking.{end-room, AtEnd}
 
 module _ (slot-offset : ℕ) where
   -- the count is one word, a PC at most four
@@ -55,19 +56,20 @@ module _ (slot-offset : ℕ) where
       e ∙ emitted-all-new h (groups slot-offset (end-calls why pc count)) new (omega (arith, end-size why pc count few, end-most why))
 
 -- and appended to the words of the instructions
-pub closed : {slot-offset start : ℕ} {w : Walk} {l : List ℕ} {len i n pc : ℕ} {why : Stop} {end : List ℕ} (em : A64Emitter)
-    → AtEnd slot-offset start w l len i n why → pc ≡ add start i → end ≡ words slot-offset (end-calls why pc n) → block-words em ≡ emitted-in max-words (take len l) end
-    → BlockOf slot-offset w (record { em = em; count = n; stop = why })
-closed {slot-offset} {start} {w} {l} {len} {i} {n} {pc} {why} em v at is e =
+pub closed : {slot-offset start : ℕ} {w : Walk} {f : Option ℕ} {l : List ℕ} {len i n pc : ℕ} {why : Stop} {b : Bool} {end : List ℕ} (em : A64Emitter)
+    → Walks slot-offset start w f l (record { len = len; i = i; n = n; stop = why; fence = b }) → pc ≡ add start i → end ≡ words slot-offset (end-calls why pc n)
+    → block-words em ≡ emitted-in max-words (take len l) end → BlockOf slot-offset w f (record { em = em; count = n; stop = why; fence = b })
+closed {slot-offset} {start} {w} {f} {l} {len} {i} {n} {pc} {why} em v at is e =
     let cs = end-calls why pc n in
     let t : cs ≡ end-calls (w .stop) (w .pc) (w .count) = rw (at, v .pc, v .stop, v .count) in
     let long = v .long in
     let room = v .room in
-    let f : length (take len l) + length (words slot-offset cs) ≤ max-words =
+    let k : length (take len l) + length (words slot-offset cs) ≤ max-words =
     omega (arith, length-take len l, words-size slot-offset cs, end-size slot-offset why pc n (v .few)) in
-    let g : block-words em ≡ take len l ++ words slot-offset cs = e ∙ ap (emitted-in max-words (take len l)) is ∙ emitted-fits max-words (take len l) (words slot-offset cs) f in
+    let g : block-words em ≡ take len l ++ words slot-offset cs = e ∙ ap (emitted-in max-words (take len l)) is ∙ emitted-fits max-words (take len l) (words slot-offset cs) k in
     record {
       holds = g ∙ rw (v .holds, t, words-append slot-offset (w .calls) (end-calls (w .stop) (w .pc) (w .count))) refl;
       count = v .count;
       stop = v .stop;
+      fence = v .fence;
     }

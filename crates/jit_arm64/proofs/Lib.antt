@@ -3,4 +3,5 @@ pub mod Ending
 pub mod Fetching
 pub mod Flows
 pub mod Refusals
+pub mod Fences
 pub mod Walking

@@ -34,7 +34,7 @@ unfolding instr-walk
 instr-count h none start k i rest up = omega arith
 instr-count h (some instr) start k i rest up = step-count _ _ _ (size-of instr) start k i rest up
 
-walk-count : (h : Host) (guest : List ℕ) (start left k i : ℕ) → k ≤ walk h guest start left k i .count
+pub walk-count : (h : Host) (guest : List ℕ) (start left k i : ℕ) → k ≤ walk h guest start left k i .count
 unfolding walk
 walk-count h guest start zero k i = omega arith
 walk-count h guest start (suc left) k i = instr-count h _ start k i (walk h guest start left) (walk-count h guest start left)

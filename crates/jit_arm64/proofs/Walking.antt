@@ -1,10 +1,12 @@
 -- What holds of the loop after n instructions: what is left of the walk ends as the whole does. Assumes nothing.
-use Prim.Native.Nat.{ℕ, suc, _+_, _*_, _-_, _^_, _≤_, _<_}
+use Prim.Native.Nat.{ℕ, suc, _+_, _*_, _-_, _^_, _≤_, _<_, min}
 use native.Mathlib.Omega.{arith}
 use mathlib.Core.Path.{_≡_, refl, sym, ap, _∙_}
+use mathlib.Core.Bool.{Bool, true, false, cond}
+use mathlib.Core.Option.{none, some}
 use mathlib.Core.List.{List, [], _++_, append-assoc, append-nil, flatten}
 use lib.ListN.{length, take}
-use Rattle.rules.specs.Limits.{inline-words, end-words, instr-words, max-words, max-instrs}
+use Rattle.rules.specs.Limits.{inline-words, instr-words, max-words, max-instrs}
 use Rattle.word.specs.Word.{add}
 use Rattle.a64_emitter.specs.Parts.{held, Added}
 use Rattle.emit_native.specs.declared.EmitFlow.{EmitFlow}
@@ -18,18 +20,13 @@ use Rattle.fetch_window.proofs.Reading.{index-add}
 use Rattle.jit_arm64.specs.declared.fetch.Fetched.{Fetched}
 use Rattle.jit_arm64.specs.declared.block.Stop.{Stop}
 use Rattle.jit_arm64.specs.declared.block.Stop.the-variants.{Limit, Ended, Helper, Uncovered, NotFetched}
-use Rattle.jit_arm64.specs.Block.{is-32, size-of, emit-native, emit-term-helper, fetch, Walk, walked, in-front, helped, step, instr-walk, walk}
-use Rattle.jit_arm64.specs.Parts.{FetchedOf, Compiled}
+use Rattle.jit_arm64.specs.Block.{is-32, size-of, emit-native, emit-term-helper, fetch, Walk, walked, in-front, helped, step, instr-walk, walk, whole-walk}
+use Rattle.jit_arm64.specs.Fence.{is-fence-i, fence-or, to-fence, fence}
+use Rattle.jit_arm64.specs.Parts.{FetchedOf, Compiled, fence-walk, is-fenced, end-room, Walks}
 use Rattle.jit_arm64.proofs.Emitting.{Appended, put, words-append, words-size, Apart, native-size, native-apart, helped-size, uncovered-size}
 use Rattle.jit_arm64.proofs.Fetching.{is-none, is-some}
-
--- the words that the end of a block may take
-unfoldable pub end-room : Stop → ℕ
-end-room Helper = 0
-end-room Ended = 2
-end-room Limit = end-words
-end-room Uncovered = end-words
-end-room NotFetched = end-words
+use Rattle.jit_arm64.proofs.Refusals.{walk-count}
+use Rattle.jit_arm64.proofs.Fences.{fence-goes-on, unfenced, fenced}
 
 -- len words of l are those of n instructions, and the next is at index i
 pub record Walking (h : Host) (guest : List ℕ) (start limit : ℕ) (l : List ℕ) (len i n : ℕ) : Type 0 where
@@ -40,23 +37,14 @@ pub record Walking (h : Host) (guest : List ℕ) (start limit : ℕ) (l : List �
   pub upto : n ≤ limit
   pub near : i ≤ 4 * n
   pub room : len ≤ inline-words * n
-  pub same : in-front calls (walk h guest start (limit - n) n i) ≡ walk h guest start limit 0 0
-
--- len words of l are those of the walk w, which stopped after n instructions, at index i
-pub record AtEnd (slot-offset start : ℕ) (w : Walk) (l : List ℕ) (len i n : ℕ) (why : Stop) : Type 0 where
-  pub holds : take len l ≡ words slot-offset (w .calls)
-  pub count : n ≡ w .count
-  pub stop : why ≡ w .stop
-  pub pc : add start i ≡ w .pc
-  pub few : n ≤ max-instrs
-  pub long : length l ≡ max-words
-  pub room : len + end-room why ≤ max-words
+  -- at every limit: the walk from here on, and the search for FENCE.I
+  pub same : (k : ℕ) → in-front calls (walk h guest start k n i) ≡ walk h guest start (n + k) 0 0
+  pub clear : (k : ℕ) → to-fence guest start k n i ≡ to-fence guest start (n + k) 0 0
 
 pub begin : (h : Host) (guest : List ℕ) (start limit : ℕ) (l : List ℕ) → length l ≡ max-words → start < 2 ^ 64 → Walking h guest start limit l 0 0 0
 unfolding words-in flatten
 begin h guest start limit l long fits =
-    let q : limit - 0 ≡ limit = omega arith in
-    record { calls = []; long = long; holds = refl; fits = fits; upto = omega arith; near = omega arith; room = omega arith; same = rw q }
+    record { calls = []; long = long; holds = refl; fits = fits; upto = omega arith; near = omega arith; room = omega arith; same = λ k. let z : 0 + k ≡ k = omega arith in rw z; clear = λ k. let z : 0 + k ≡ k = omega arith in rw z }
 
 -- a helper's emitter that did not take the instruction
 not-helped : (f : EmitFlow) (cs : List Call) (n pc : ℕ) → (f ≡ Terminate → ⊥) → helped f cs n pc ≡ walked cs n Uncovered pc
@@ -67,46 +55,66 @@ not-helped Terminate cs n pc other = absurd (other refl)
 
 module _ {h : Host} {guest : List ℕ} {start limit : ℕ} {l : List ℕ} {len i n : ℕ} (small : limit ≤ max-instrs)
     (v : Walking h guest start limit l len i n) where
-  abbrev Done : List ℕ → ℕ → ℕ → ℕ → Stop → Type 0
-  Done l′ len′ i′ n′ why = AtEnd (h .«slot_offset») start (walk h guest start limit 0 0) l′ len′ i′ n′ why
+  abbrev Done : List ℕ → ℕ → ℕ → ℕ → Stop → Bool → Type 0
+  Done l′ len′ i′ n′ why b =
+      Walks (h .«slot_offset») start (fence-walk max-instrs h guest start limit) (fence max-instrs h guest start limit) l′
+      (record { len = len′; i = i′; n = n′; stop = why; fence = b })
 
-  -- the walk ends with the calls cs
+  -- what is left at the limit
+  whole : (k : ℕ) → limit ≡ n + k → in-front (v .calls) (walk h guest start k n i) ≡ whole-walk max-instrs h guest start limit
+  unfolding whole-walk
+  whole k e =
+      let m : min limit max-instrs ≡ n + k = omega arith in
+      rw m (v .same k)
+
+  -- the walk ends with the calls cs; no FENCE.I is among its instructions
   ended : (cs : List Call) {l′ : List ℕ} {len′ : ℕ} (i′ n′ : ℕ) (why : Stop)
-      → in-front (v .calls) (walked cs n′ why (add start i′)) ≡ walk h guest start limit 0 0
-      → take len′ l′ ≡ words (h .«slot_offset») (v .calls ++ cs) → n′ ≤ max-instrs → length l′ ≡ max-words → len′ + end-room why ≤ max-words → Done l′ len′ i′ n′ why
-  ended cs i′ n′ why e holds few long room =
-      rw (← e) (record { holds = holds; count = refl; stop = refl; pc = refl; few = few; long = long; room = room })
+      → in-front (v .calls) (walked cs n′ why (add start i′)) ≡ whole-walk max-instrs h guest start limit → to-fence guest start n′ 0 0 ≡ none
+      → take len′ l′ ≡ words (h .«slot_offset») (v .calls ++ cs) → n′ ≤ max-instrs → length l′ ≡ max-words → len′ + end-room why ≤ max-words → Done l′ len′ i′ n′ why false
+  unfolding is-fenced
+  ended cs i′ n′ why e clear holds few long room =
+      let u = unfenced h guest start limit (sym e) clear in
+      rw (u .0, u .1) (record { holds = holds; count = refl; stop = refl; pc = refl; fence = refl; few = few; long = long; room = room })
 
   bare : take len l ≡ words (h .«slot_offset») (v .calls ++ [])
   bare = v .holds ∙ ap (words (h .«slot_offset»)) (sym (append-nil (v .calls)))
 
-  pub at-limit : n ≡ limit → Done l len i n Limit
+  -- none so far
+  none-yet : to-fence guest start n 0 0 ≡ none
+  unfolding to-fence
+  none-yet = let z : n + 0 ≡ n = omega arith in rw z at (sym (v .clear 0))
+
+  pub at-limit : n ≡ limit → Done l len i n Limit false
   unfolding walk end-room
   at-limit q =
-      let z : limit - n ≡ 0 = omega arith in
       let u = v .room in
-      ended [] i n Limit (rw z at (v .same)) bare (omega arith) (v .long) (omega arith)
+      ended [] i n Limit (whole 0 (omega arith)) none-yet bare (omega arith) (v .long) (omega arith)
 
   -- what was fetched at the PC
   module _ (q : n ≡ limit → ⊥) {pc : ℕ} (at : pc ≡ add start i) {r : Fetched} (found : FetchedOf (fetch pc guest (index start pc)) r) where
-    one : in-front (v .calls) (instr-walk h (fetch pc guest (index start pc)) start n i (walk h guest start (limit - suc n))) ≡ walk h guest start limit 0 0
-    unfolding walk
-    one =
+    here : index start pc ≡ i
+    here =
         let u = v .upto in
         let near = v .near in
-        let more : limit - n ≡ suc (limit - suc n) = omega arith in
-        let here : index start (add start i) ≡ i = index-add start i (v .fits) (omega arith) in
-        rw (at, here) (rw more at (v .same))
+        rw at (index-add start i (v .fits) (omega arith))
 
-    pub not-fetched : r .size ≡ 0 → Done l len i n NotFetched
-    unfolding instr-walk end-room
+    left : limit ≡ n + suc (limit - suc n)
+    left = let u = v .upto in omega arith
+
+    one : (k : ℕ) → in-front (v .calls) (instr-walk h (fetch pc guest (index start pc)) start n i (walk h guest start k)) ≡ walk h guest start (n + suc k) 0 0
+    unfolding walk
+    one k = rw (here, at) (v .same (suc k))
+
+    pub not-fetched : r .size ≡ 0 → Done l len i n NotFetched false
+    unfolding instr-walk end-room whole-walk
     not-fetched z =
         let u = v .upto in
         let m = v .room in
-        ended [] i n NotFetched (rw (is-none _ r (found .found) z) at one) bare (omega arith) (v .long) (omega arith)
+        let e : min limit max-instrs ≡ n + suc (limit - suc n) = omega (arith, left) in
+        ended [] i n NotFetched (rw e (rw (is-none _ r (found .found) z) at (one (limit - suc n)))) none-yet bare (omega arith) (v .long) (omega arith)
 
     -- an instruction
-    module _ (some : r .size ≡ 0 → ⊥) where
+    module _ (some-bytes : r .size ≡ 0 → ⊥) where
       abbrev e : Emission
       e = emit-native h pc (r .instr)
 
@@ -114,18 +122,49 @@ module _ {h : Host} {guest : List ℕ} {start limit : ℕ} {l : List ℕ} {len i
       helper = emit-term-helper h pc (r .instr) n
 
       size-is : r .size ≡ size-of (r .instr)
-      size-is = is-some _ r (found .found) some .1
+      size-is = is-some _ r (found .found) some-bytes .1
 
       pub size-4 : r .size ≤ 4
       size-4 = by (is-32 (r .instr)) (λ t. rw (size-is, t) (omega arith)) (λ t. rw (size-is, t) (omega arith))
 
-      stepped : (f : EmitFlow) → e .flow ≡ f
-          → in-front (v .calls) (step f e helper (r .size) start n i (walk h guest start (limit - suc n))) ≡ walk h guest start limit 0 0
+      stepped : (f : EmitFlow) → e .flow ≡ f → (k : ℕ)
+          → in-front (v .calls) (step f e helper (r .size) start n i (walk h guest start k)) ≡ walk h guest start (n + suc k) 0 0
       unfolding instr-walk
-      stepped f t = rw (← t, size-is, at) (rw (is-some _ r (found .found) some .0) at one)
+      stepped f t k = rw (← t, size-is, at) (rw (is-some _ r (found .found) some-bytes .0) at (one k))
+
+      -- the same at the limit
+      ends : (f : EmitFlow) → e .flow ≡ f
+          → in-front (v .calls) (step f e helper (r .size) start n i (walk h guest start (limit - suc n))) ≡ whole-walk max-instrs h guest start limit
+      unfolding whole-walk
+      ends f t =
+          let m : min limit max-instrs ≡ n + suc (limit - suc n) = omega (arith, left) in
+          rw m (stepped f t (limit - suc n))
+
+      -- the search for FENCE.I at this instruction
+      searched : (k : ℕ) → cond (is-fence-i (r .instr)) (some (suc n)) (to-fence guest start k (suc n) (i + r .size)) ≡ to-fence guest start (n + suc k) 0 0
+      unfolding to-fence fence-or
+      searched k =
+          let f : fence-or (fetch pc guest (index start pc)) n (λ (size : ℕ). to-fence guest start k (suc n) (i + size)) ≡ to-fence guest start (n + suc k) 0 0 = rw (here, at) (v .clear (suc k)) in
+          rw size-is (rw (is-some _ r (found .found) some-bytes .0) at f)
 
       next : n + 1 ≡ suc n
       next = omega arith
+
+      -- FENCE.I is the Rust's instruction of that number
+      found-at : e .flow ≡ Continue → is-fence-i (r .instr) ≡ true → fence max-instrs h guest start limit ≡ some (suc n)
+      unfolding fence step
+      found-at f q′ =
+          let w = walk h guest start (limit - suc n) (suc n) (i + r .size) in
+          let c : w .count ≡ n + suc (w .count - suc n) = omega (arith, walk-count h guest start (limit - suc n) (suc n) (i + r .size)) in
+          rw (← ends Continue f) (ap (λ (m : ℕ). to-fence guest start m 0 0) c ∙ sym (searched (w .count - suc n)) ∙ rw q′ refl)
+
+      -- an instruction behind which the Rust does not go on is no FENCE.I
+      none-here : (f : EmitFlow) → e .flow ≡ f → (f ≡ Continue → ⊥) → to-fence guest start (n + 1) 0 0 ≡ none
+      unfolding to-fence
+      none-here f t other =
+          by (is-fence-i (r .instr))
+          (λ y. absurd (other (sym t ∙ ap (λ (x : Emission). x .flow) (fence-goes-on h pc (r .instr) y))))
+          (λ y. rw y at (sym (searched 0)))
 
       -- its words cs, appended
       module _ (cs : List Call) {l′ : List ℕ} {len′ : ℕ} {ws : List ℕ} (alone : ws ≡ words (h .«slot_offset») cs) (added : Added max-words l len l′ len′ ws) where
@@ -143,9 +182,9 @@ module _ {h : Host} {guest : List ℕ} {start limit : ℕ} {l : List ℕ} {len i
         few : length (words (h .«slot_offset») (e .calls)) ≤ inline-words
         few = omega (arith, words-size (h .«slot_offset») (e .calls), native-size (h .«slot_offset») h pc (r .instr))
 
-        pub on : out .flow ≡ Continue → Walking h guest start limit l′ len′ (i + r .size) (n + 1)
+        pub on : out .flow ≡ Continue → is-fence-i (r .instr) ≡ false → Walking h guest start limit l′ len′ (i + r .size) (n + 1)
         unfolding step
-        on t =
+        on t q′ =
             let u = v .upto in
             let f = v .near in
             let m = v .room in
@@ -153,6 +192,7 @@ module _ {h : Host} {guest : List ℕ} {start limit : ℕ} {l : List ℕ} {len i
             let w = few in
             let a = appended (e .calls) (c .holds) added (omega arith) in
             let p = a .len in
+            let s : (j : ℕ) → suc n + j ≡ n + suc j = λ j. omega arith in
             record {
               calls = v .calls ++ e .calls;
               long = a .long;
@@ -161,10 +201,11 @@ module _ {h : Host} {guest : List ℕ} {start limit : ℕ} {l : List ℕ} {len i
               upto = omega arith;
               near = omega arith;
               room = omega arith;
-              same = rw (append-assoc, next) (stepped Continue (sym (c .flow) ∙ t));
+              same = λ j. rw (append-assoc, next, s j) (stepped Continue (sym (c .flow) ∙ t) j);
+              clear = λ j. rw (next, s j) (rw q′ at (searched j));
             }
 
-        pub by-end : out .flow ≡ Terminate → Done l′ len′ (i + r .size) (n + 1) Ended
+        pub by-end : out .flow ≡ Terminate → Done l′ len′ (i + r .size) (n + 1) Ended false
         unfolding step end-room
         by-end t =
             let u = v .upto in
@@ -172,9 +213,28 @@ module _ {h : Host} {guest : List ℕ} {start limit : ℕ} {l : List ℕ} {len i
             let w = few in
             let a = appended (e .calls) (c .holds) added (omega arith) in
             let p = a .len in
-            ended (e .calls) (i + r .size) (n + 1) Ended (rw next (stepped Terminate (sym (c .flow) ∙ t))) (more (e .calls) (c .holds) added (omega arith))
+            let f : e .flow ≡ Terminate = sym (c .flow) ∙ t in
+            ended (e .calls) (i + r .size) (n + 1) Ended (rw next (ends Terminate f)) (none-here Terminate f (λ z. not-on z)) (more (e .calls) (c .holds) added (omega arith))
             (omega arith) (a .long) (omega arith)
+          where
+            not-on : Terminate ≡ Continue → ⊥
+            not-on z = let y : _≡_ {A = ℕ} 0 1 = cc in omega arith
 
+        -- FENCE.I: the walk at its own count as the limit
+        pub by-fence : out .flow ≡ Continue → is-fence-i (r .instr) ≡ true → Done l′ len′ (i + r .size) (n + 1) Limit true
+        unfolding step walk end-room is-fenced
+        by-fence t q′ =
+            let u = v .upto in
+            let m = v .room in
+            let w = few in
+            let a = appended (e .calls) (c .holds) added (omega arith) in
+            let p = a .len in
+            let f : e .flow ≡ Continue = sym (c .flow) ∙ t in
+            let g = found-at f q′ in
+            let one-more : suc n ≡ n + suc 0 = omega arith in
+            let x = fenced h guest start limit (omega arith) g (ap (λ (j : ℕ). walk h guest start j 0 0) one-more ∙ sym (stepped Continue f 0)) in
+            rw (x, g)
+            (record { holds = more (e .calls) (c .holds) added (omega arith) ∙ rw (append-nil (e .calls)) refl; count = next; stop = refl; pc = refl; fence = refl; few = omega arith; long = a .long; room = omega arith })
       -- what the inline emitter left, and the helper's words
       module _ {out left : Emitted} (i₀ : Compiled (h .«slot_offset») (e .calls) (e .flow) left) (none : left .flow ≡ None)
           (c : Compiled (h .«slot_offset») (e .calls ++ helper .calls) (helper .flow) out) {l′ : List ℕ} {len′ : ℕ} (added : Added max-words l len l′ len′ (held (out .em))) where
@@ -187,7 +247,7 @@ module _ {h : Host} {guest : List ℕ} {start limit : ℕ} {l : List ℕ} {len i
         apart : Apart (h .«slot_offset») e helper
         apart = let u = v .upto in native-apart (h .«slot_offset») h pc (r .instr) n (omega arith)
 
-        pub by-helper : out .flow ≡ Terminate → Done l′ len′ i (n + 1) Helper
+        pub by-helper : out .flow ≡ Terminate → Done l′ len′ i (n + 1) Helper false
         unfolding step helped end-room
         by-helper t =
             let k = v .upto in
@@ -196,9 +256,12 @@ module _ {h : Host} {guest : List ℕ} {start limit : ℕ} {l : List ℕ} {len i
             omega (arith, words-size (h .«slot_offset») both, helped-size (h .«slot_offset») e helper (native-size (h .«slot_offset») h pc (r .instr)) apart) in
             let a = appended both (c .holds) added w in
             let p = a .len in
-            ended both i (n + 1) Helper (rw next (rw (sym (c .flow) ∙ t) at (stepped None not-inline))) (more both (c .holds) added w) (omega arith) (a .long) (omega arith)
+            ended both i (n + 1) Helper (rw next (rw (sym (c .flow) ∙ t) at (ends None not-inline))) (none-here None not-inline (λ z. not-on z)) (more both (c .holds) added w) (omega arith) (a .long) (omega arith)
+          where
+            not-on : None ≡ Continue → ⊥
+            not-on z = let y : _≡_ {A = ℕ} 0 1 = cc in omega arith
 
-        pub uncovered : (out .flow ≡ Terminate → ⊥) → Done l′ len′ i n Uncovered
+        pub uncovered : (out .flow ≡ Terminate → ⊥) → Done l′ len′ i n Uncovered false
         unfolding step end-room
         uncovered t =
             let k = v .upto in
@@ -208,5 +271,5 @@ module _ {h : Host} {guest : List ℕ} {start limit : ℕ} {l : List ℕ} {len i
             omega (arith, words-size (h .«slot_offset») both, uncovered-size (h .«slot_offset») e helper (native-size (h .«slot_offset») h pc (r .instr)) apart other) in
             let a = appended both (c .holds) added (omega arith) in
             let p = a .len in
-            ended both i n Uncovered (rw (not-helped (helper .flow) both n (add start i) other) at (stepped None not-inline)) (more both (c .holds) added (omega arith))
+            ended both i n Uncovered (rw (not-helped (helper .flow) both n (add start i) other) at (ends None not-inline)) none-yet (more both (c .holds) added (omega arith))
             (omega arith) (a .long) (omega arith)

@@ -1,2 +1,3 @@
 pub mod Block
+pub mod Fence
 pub mod Parts

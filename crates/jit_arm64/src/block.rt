@@ -1,12 +1,14 @@
-// `compile_native_block`: limit, alignment and fetch around the emitters.
+// `compile_native_block`: limit, alignment and fetch around the emitters. FENCE.I ends a block (document 02, No. 3).
 ghost use mathlib.Core.Path.{_≡_};
 ghost use mathlib.Core.List.{_++_};
 ghost use Prim.Native.Nat.{ℕ, _≤_, min};
-ghost use Rattle.rules.specs.Limits.{max-instrs, max-slot-offset};
+ghost use lib.ListN.{length};
+ghost use Rattle.rules.specs.Limits.{max-instrs, max-words, max-slot-offset};
 ghost use Rattle.a64_emitter.specs.Parts.{held, emitted-all};
 ghost use Rattle.emit_native.specs.Calls as Calls;
-ghost use Rattle.jit_arm64.specs.Block.{emit-native, emit-term-helper, return-calls, end-calls, whole-walk};
-ghost use Rattle.jit_arm64.specs.Parts.{Narrow, Compiled, BlockOf, first-refusal};
+ghost use Rattle.jit_arm64.specs.Block.{emit-native, emit-term-helper, return-calls, end-calls};
+ghost use Rattle.jit_arm64.specs.Fence.{is-fence-i, fence};
+ghost use Rattle.jit_arm64.specs.Parts.{Narrow, Compiled, Walks, BlockOf, fence-walk, first-refusal};
 use crate::fetch::fetch;
 use a64_emitter::A64Emitter;
 use a64_emitter::InstrEmitter;
@@ -14,6 +16,7 @@ use emit_native::EmitFlow;
 use emit_native::Emitted;
 use emit_native::Host;
 use rules::MAX_INSTRS;
+use rules::MAX_WORDS;
 use rules::refusals;
 
 // Why the walk over the guest code stopped.
@@ -25,11 +28,22 @@ pub enum Stop {
     NotFetched,
 }
 
-// The block's words, its count of instructions, and why it ended.
+// What the walk did: how many words there are, the index behind its last inline instruction, how many instructions, why
+// it stopped, and whether FENCE.I did that.
+pub struct Walked {
+    pub len: usize,
+    pub i: usize,
+    pub n: u32,
+    pub stop: Stop,
+    pub fence: bool,
+}
+
+// The block's words, its count of instructions, why it ended, and whether FENCE.I ended it.
 pub struct NativeBlock {
     pub em: A64Emitter,
     pub count: u32,
     pub stop: Stop,
+    pub fence: bool,
 }
 
 // The inline words of an instruction, by its width.
@@ -115,16 +129,28 @@ fn clamped(limit: u32) -> u32
     }
 }
 
-// The instructions from `start` on, at most `limit` of them: each by itself, its words appended; then the end of the block.
-pub fn compile_native_block(guest: &[u8], start: u64, limit: u32, host: Host) -> NativeBlock
-    requires { ⌜ host .«slot_offset» ≤ max-slot-offset ⌝ }
-    ensures { λ r. ⌜ BlockOf (host .«slot_offset») (whole-walk max-instrs host (now (guest .entry)) start limit) r ⌝ }
+// FENCE.I: MISC-MEM with funct3 1.
+fn is_fence_i(instr: u32) -> bool
+    ensures { λ r. ⌜ r ≡ is-fence-i instr ⌝ }
 {
-    let most = clamped(limit);
-    let mut em = A64Emitter::new();
+    instr % 128 == isa::OPCODE_MISC_MEM && instr / 4096 % 8 == isa::F3_FENCE_I
+}
+
+// The instructions from `start` on, at most `most` of them and none behind FENCE.I: each by itself, its words appended.
+fn walk(
+    words: &mut [u32; MAX_WORDS],
+    guest: &[u8],
+    start: u64,
+    most: u32,
+    host: Host,
+) -> Walked
+    requires { ⌜ (length (now words) ≡ max-words) × (host .«slot_offset» ≤ max-slot-offset) × (most ≤ max-instrs) ⌝ }
+    ensures { λ r. ⌜ Walks (host .«slot_offset») start (fence-walk max-instrs host (now (guest .entry)) start most) (fence max-instrs host (now (guest .entry)) start most) (now (words .exit)) r ⌝ }
+{
     let mut len: usize = 0;
     let mut i: usize = 0;
     let mut n: u32 = 0;
+    let mut fence = false;
     let stop = loop {
         if n == most {
             break Stop::Limit;
@@ -139,7 +165,7 @@ pub fn compile_native_block(guest: &[u8], start: u64, limit: u32, host: Host) ->
         if let EmitFlow::None = flow {
             let left = out.em;
             let helper = emit_term_helper(left, host, pc, found.instr, n);
-            len = a64_emitter::append_at(&mut em.words, len, &helper.em.words, helper.em.len);
+            len = a64_emitter::append_at(words, len, &helper.em.words, helper.em.len);
             let taken = helper.flow;
             if let EmitFlow::Terminate = taken {
                 n += 1;
@@ -147,15 +173,36 @@ pub fn compile_native_block(guest: &[u8], start: u64, limit: u32, host: Host) ->
             }
             break Stop::Uncovered;
         }
-        len = a64_emitter::append_at(&mut em.words, len, &out.em.words, out.em.len);
+        len = a64_emitter::append_at(words, len, &out.em.words, out.em.len);
         i += found.size;
         n += 1;
         if let EmitFlow::Terminate = flow {
             break Stop::Ended;
         }
+        if is_fence_i(found.instr) {
+            fence = true;
+            break Stop::Limit;
+        }
     };
-    em.len = len;
-    let end = emit_end(stop, std::num::wrapping_add_u64(start, i as u64), n);
+    Walked { len, i, n, stop, fence }
+}
+
+// The block from `start` on: the words of its instructions, then its end.
+pub fn compile_native_block(guest: &[u8], start: u64, limit: u32, host: Host) -> NativeBlock
+    requires { ⌜ host .«slot_offset» ≤ max-slot-offset ⌝ }
+    ensures { λ r. ⌜ BlockOf (host .«slot_offset») (fence-walk max-instrs host (now (guest .entry)) start limit) (fence max-instrs host (now (guest .entry)) start limit) r ⌝ }
+{
+    let most = clamped(limit);
+    let mut em = A64Emitter::new();
+    let done = walk(&mut em.words, guest, start, most, host);
+    em.len = done.len;
+    let stop = done.stop;
+    let end = emit_end(stop, std::num::wrapping_add_u64(start, done.i as u64), done.n);
     let em = em.append(end);
-    NativeBlock { em, count: n, stop }
+    NativeBlock {
+        em,
+        count: done.n,
+        stop,
+        fence: done.fence,
+    }
 }

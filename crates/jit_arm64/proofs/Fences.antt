@@ -1,0 +1,112 @@
+-- FENCE.I in a walk: where it is the last instruction, and where there is none. Assumes nothing.
+use Prim.Native.Nat.{ℕ, zero, suc, _+_, _%_, _^_, _≤_, _<_, min}
+use native.Mathlib.Omega.{arith}
+use mathlib.Core.Path.{_≡_, refl, sym, ap, _∙_}
+use mathlib.Core.Bool.{Bool, true, false, cond, _&&_, true≢false}
+use mathlib.Core.List.{List, []}
+use mathlib.Core.Option.{Option, none, some}
+use lib.Dec.{eqb}
+use borrow.Author.Tests.{eqb-true, eq-eqb, ne-eqb}
+use Rattle.rules.specs.Limits.{max-instrs}
+use Rattle.word.specs.Word.{add}
+use Rattle.isa.specs.Formats.{funct3}
+use Rattle.emit_native.specs.declared.Host.{Host}
+use Rattle.emit_native.specs.Calls.{continue}
+use Rattle.emit_native.proofs.Size.{by}
+use Rattle.instr32.specs.Instr32.{misc-mem, emit-native-instr}
+use Rattle.jit_arm64.specs.Block.{fetch, is-32, size-of, emit-native, Walk, walk, whole-walk, block-of, compile-native-block}
+use Rattle.jit_arm64.specs.Fence.{is-fence-i, fence-or, to-fence, fence, limit-at}
+use Rattle.jit_arm64.specs.Parts.{fence-walk}
+use Rattle.jit_arm64.proofs.Refusals.{refuses, no-block-is}
+
+pub fence-fields : (instr : ℕ) → is-fence-i instr ≡ true → (instr % 128 ≡ 0x0F) × (funct3 instr ≡ 1)
+fence-fields instr = opcode-by (eqb (instr % 128) 0x0F) refl
+  where
+    opcode-by : (c : Bool) → eqb (instr % 128) 0x0F ≡ c → (c && eqb (funct3 instr) 1) ≡ true → (instr % 128 ≡ 0x0F) × (funct3 instr ≡ 1)
+    opcode-by true q t = (eqb-true (instr % 128) 0x0F q, eqb-true (funct3 instr) 1 t)
+    opcode-by false q t = absurd (true≢false (sym t))
+
+-- it has 32 bits
+pub fence-wide : (instr : ℕ) → is-fence-i instr ≡ true → is-32 instr ≡ true
+fence-wide instr t = eq-eqb (instr % 4) 3 (omega (arith, fence-fields instr t .0))
+
+-- it is inline, and the Rust goes on behind it
+pub fence-goes-on : (h : Host) (pc instr : ℕ) → is-fence-i instr ≡ true → emit-native h pc instr ≡ continue []
+unfolding emit-native emit-native-instr misc-mem
+fence-goes-on h pc instr t =
+    let f = fence-fields instr t in
+    rw (fence-wide instr t, f .0, f .1) refl
+
+module _ (h : Host) (guest : List ℕ) (start limit : ℕ) where
+  -- none among the instructions of the Rust's walk
+  pub unfenced : {w : Walk} → whole-walk max-instrs h guest start limit ≡ w → to-fence guest start (w .count) 0 0 ≡ none
+      → (fence-walk max-instrs h guest start limit ≡ w) × (fence max-instrs h guest start limit ≡ none)
+  unfolding fence limit-at
+  unfenced e f =
+      let g : to-fence guest start (whole-walk max-instrs h guest start limit .count) 0 0 ≡ none = rw e f in
+      (rw g e, g)
+
+  -- it is instruction n
+  pub fenced : {w : Walk} {n : ℕ} → n ≤ max-instrs → fence max-instrs h guest start limit ≡ some n → walk h guest start n 0 0 ≡ w
+      → fence-walk max-instrs h guest start limit ≡ w
+  unfolding whole-walk limit-at
+  fenced {w} {n} l f e =
+      let m : min n max-instrs ≡ n = omega arith in
+      rw (f, m) e
+
+  whole : whole-walk max-instrs h guest start (min limit max-instrs) ≡ whole-walk max-instrs h guest start limit
+  unfolding whole-walk
+  whole =
+      let m : min (min limit max-instrs) max-instrs ≡ min limit max-instrs = omega arith in
+      rw m
+
+  by-fence : (f : Option ℕ) → whole-walk max-instrs h guest start (limit-at f (min limit max-instrs)) ≡ whole-walk max-instrs h guest start (limit-at f limit)
+  unfolding limit-at
+  by-fence none = whole
+  by-fence (some n) = refl
+
+  -- the limit may be clamped before
+  pub clamped-fence : fence max-instrs h guest start (min limit max-instrs) ≡ fence max-instrs h guest start limit
+  unfolding fence
+  clamped-fence = ap (λ (w : Walk). to-fence guest start (w .count) 0 0) whole
+
+  pub clamped-walk : fence-walk max-instrs h guest start (min limit max-instrs) ≡ fence-walk max-instrs h guest start limit
+  clamped-walk = rw clamped-fence (by-fence (fence max-instrs h guest start limit))
+
+-- ---- no block exactly under refusals 2 to 5 of document 01
+
+or-positive : (f : Option ℕ) (n m : ℕ) (rest : ℕ → Option ℕ) → ((size : ℕ) → rest size ≡ some m → eqb m 0 ≡ false) → fence-or f n rest ≡ some m → eqb m 0 ≡ false
+unfolding fence-or
+or-positive none n m rest on e = let z : _≡_ {A = ℕ} 0 1 = cc in absurd (omega arith)
+or-positive (some instr) n m rest on e =
+    by (is-fence-i instr)
+    (λ t. let z : some (suc n) ≡ some m = rw t at e in let y : suc n ≡ m = cc in ne-eqb m 0 (λ q. omega arith))
+    (λ t. on (size-of instr) (rw t at e))
+
+positive : (guest : List ℕ) (start k n i m : ℕ) → to-fence guest start k n i ≡ some m → eqb m 0 ≡ false
+unfolding to-fence
+positive guest start zero n i m e = let z : _≡_ {A = ℕ} 0 1 = cc in absurd (omega arith)
+positive guest start (suc k) n i m e =
+    or-positive (fetch (add start i) guest i) n m _ (λ size q. positive guest start k (suc n) (i + size) m q) e
+
+module _ (most : ℕ) (h : Host) (guest : List ℕ) (pc : ℕ) where
+  -- no FENCE.I where the limit is 0
+  at-zero : fence most h guest pc 0 ≡ none
+  unfolding fence whole-walk walk to-fence
+  at-zero = let z : min 0 most ≡ 0 = omega arith in rw z refl
+
+  by-limit : (limit : ℕ) (f : Option ℕ) → fence most h guest pc (suc limit) ≡ f → eqb (limit-at f (suc limit)) 0 ≡ eqb (suc limit) 0
+  unfolding limit-at fence
+  by-limit limit none e = refl
+  by-limit limit (some m) e = positive guest pc _ 0 0 m e ∙ sym (ne-eqb (suc limit) 0 (λ q. omega arith))
+
+  same-zero : (limit : ℕ) → eqb (limit-at (fence most h guest pc limit) limit) 0 ≡ eqb limit 0
+  unfolding limit-at
+  same-zero zero = rw at-zero refl
+  same-zero (suc limit) = by-limit limit _ refl
+
+pub no-block-with-fence : (most : ℕ) (h : Host) (guest : List ℕ) (pc limit : ℕ) → pc < 2 ^ 64
+    → compile-native-block (suc most) h guest pc (limit-at (fence (suc most) h guest pc limit) limit)
+    ≡ cond (refuses h guest pc limit) none (some (block-of h (fence-walk (suc most) h guest pc limit)))
+no-block-with-fence most h guest pc limit l =
+    no-block-is most h guest pc (limit-at (fence (suc most) h guest pc limit) limit) l ∙ rw (same-zero (suc most) h guest pc limit) refl
