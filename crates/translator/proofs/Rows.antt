@@ -1,8 +1,9 @@
 -- Document 01's marked blocks, as one list over which one fact is shown. Assumes nothing.
 use Prim.Native.Nat.{ℕ, zero, suc, _*_, _-_}
 use mathlib.Core.Path.{_≡_, refl}
-use mathlib.Core.Bool.{false}
+use mathlib.Core.Bool.{false, cond}
 use mathlib.Core.List.{List, [], _∷_, _++_, map, flatten}
+use lib.Dec.{eqb}
 use lib.ListN.{length, replicate}
 use Rattle.a64_emitter.specs.Emitter.{bytes}
 use Rattle.a64_emitter.specs.Writers as Writers
@@ -11,6 +12,7 @@ use Rattle.word.specs.Word as W
 use Rattle.emit_native.specs.declared.Host.{Host}
 use Rattle.translator.specs.Translate as T
 use Rattle.jit_arm64.specs.Block as B
+use Rattle.jit_arm64.specs.Fence as F
 use Rattle.emit_native.specs.Calls as Calls
 use Rattle.isa.specs.Decode as Rust
 use Rattle.instr16.specs.Instr16 as I16
@@ -61,12 +63,16 @@ room = replicate 32 0xEE
 found : Row → T.Result
 found r = T.translate host (r .guest) (r .pc) (r .limit) room
 
+-- 1, plain, where the row is accepted: no helper or FENCE.I ends one
+kind : Row → ℕ
+kind r = cond (eqb (r .refusal) 0) 1 0
+
 -- what the paper says
 said : Row → T.Result
 said r =
-    T.result (record { refusal = r .refusal; length = 4 * length (r .words); count = r .count; helper = 0 })
+    T.result (record { refusal = r .refusal; length = 4 * length (r .words); count = r .count; end = kind r })
     (bytes (r .words) ++ replicate (32 - 4 * length (r .words)) 0xEE)
 
 all-rows : map found rows ≡ map said rows
-unfolding rows row refusing nops room found said host B.is-missing T.by-helper T.no-block T.of-block T.translate B.fetch-upper B.fetch B.emit-native B.emit-term-helper B.helped B.step B.instr-walk B.walk B.end-calls B.whole-walk B.compile-native-block Calls.words-in Calls.store-rd Rust.sign-extend Rust.imm-ci Rust.shamt Rust.imm-addi4spn Rust.imm-addi16sp Rust.imm-cj Rust.imm-cb I16.addi4spn I16.quadrant-0 I16.c-addi I16.c-addiw I16.c-li I16.c-addi16sp I16.c-lui I16.c-srli I16.c-srai I16.c-andi I16.c-alu I16.c-group I16.c-j I16.c-branch-on I16.c-branch I16.c-addi16sp-lui I16.quadrant-1 I16.c-slli I16.c-jr I16.c-mv I16.c-ebreak I16.c-jalr I16.c-add I16.c-jump-move-add I16.quadrant-2 I16.emit-native-instr16 TH.supports TH.emit-native-term-helper16 Writers.movk Writers.mov-imm64 Le.number Le.load Le.bytes Le.all-bytes W.asr flatten
+unfolding rows row refusing nops room found kind said host B.is-missing F.fence-or F.to-fence F.fence F.limit-at T.end-kind T.end-number T.no-block T.of-block T.translate B.fetch-upper B.fetch B.emit-native B.emit-term-helper B.helped B.step B.instr-walk B.walk B.end-calls B.whole-walk B.compile-native-block Calls.words-in Calls.store-rd Rust.sign-extend Rust.imm-ci Rust.shamt Rust.imm-addi4spn Rust.imm-addi16sp Rust.imm-cj Rust.imm-cb I16.addi4spn I16.quadrant-0 I16.c-addi I16.c-addiw I16.c-li I16.c-addi16sp I16.c-lui I16.c-srli I16.c-srai I16.c-andi I16.c-alu I16.c-group I16.c-j I16.c-branch-on I16.c-branch I16.c-addi16sp-lui I16.quadrant-1 I16.c-slli I16.c-jr I16.c-mv I16.c-ebreak I16.c-jalr I16.c-add I16.c-jump-move-add I16.quadrant-2 I16.emit-native-instr16 TH.supports TH.emit-native-term-helper16 Writers.movk Writers.mov-imm64 Le.number Le.load Le.bytes Le.all-bytes W.asr flatten
 all-rows = refl

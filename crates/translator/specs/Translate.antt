@@ -12,6 +12,8 @@ use Rattle.translator.specs.declared.Answer.{Answer}
 use Rattle.jit_arm64.specs.declared.block.Stop.{Stop}
 use Rattle.jit_arm64.specs.declared.block.Stop.the-variants.{Limit, Ended, Helper, Uncovered, NotFetched}
 use Rattle.jit_arm64.specs.Block.{fetch, is-missing, Block, compile-native-block}
+use Rattle.jit_arm64.specs.Fence.{fence, limit-at}
+use Rattle.translator.specs.declared.EndKind.{EndKind}
 
 -- the answer, and the output bytes then
 pub record Result : Type 0 where
@@ -23,20 +25,27 @@ result a output = record { answer = a; output = output }
 
 -- a refusal leaves the output
 abbrev pub refused : ℕ → List ℕ → Result
-refused n output = result (record { refusal = n; length = 0; count = 0; helper = 0 }) output
+refused n output = result (record { refusal = n; length = 0; count = 0; end = 0 }) output
 
--- 1 where a helper ended the block
-unfoldable pub by-helper : Stop → ℕ
-by-helper Helper = 1
-by-helper Limit = 0
-by-helper Ended = 0
-by-helper Uncovered = 0
-by-helper NotFetched = 0
+-- how a block ends (document 02, No. 3): by FENCE.I, by a helper, or otherwise
+unfoldable pub end-kind : Option ℕ → Stop → EndKind
+end-kind (some n) stop = EndKind.Drop
+end-kind none Helper = EndKind.Helper
+end-kind none Limit = EndKind.Plain
+end-kind none Ended = EndKind.Plain
+end-kind none Uncovered = EndKind.Plain
+end-kind none NotFetched = EndKind.Plain
+
+-- document 02's numbers
+unfoldable pub end-number : EndKind → ℕ
+end-number EndKind.Plain = 1
+end-number EndKind.Helper = 2
+end-number EndKind.Drop = 3
 
 -- the block at the front of the output
-abbrev pub accepted : Block → List ℕ → Result
-accepted b output =
-    result (record { refusal = Refusals.accepted; length = length (b .code); count = b .count; helper = by-helper (b .stop) })
+abbrev pub accepted : Block → EndKind → List ℕ → Result
+accepted b k output =
+    result (record { refusal = Refusals.accepted; length = length (b .code); count = b .count; end = end-number k })
     (b .code ++ drop (length (b .code)) output)
 
 -- a slot offset that is no multiple of 8 or is above 32,512
@@ -51,11 +60,14 @@ no-block guest pc limit =
     (cond (is-missing (fetch pc guest 0)) Refusals.not-fetched
     Refusals.not-covered))
 
-unfoldable pub of-block : Option Block → ℕ → List ℕ → Result
-of-block none why output = refused why output
-of-block (some b) why output = cond (ltb (length output) (length (b .code))) (refused Refusals.output-short output) (accepted b output)
+-- f: the FENCE.I that ends the block, or none
+unfoldable pub of-block : Option Block → ℕ → Option ℕ → List ℕ → Result
+of-block none why f output = refused why output
+of-block (some b) why f output =
+    cond (ltb (length output) (length (b .code))) (refused Refusals.output-short output) (accepted b (end-kind f (b .stop)) output)
 
 unfoldable pub translate : Host → List ℕ → ℕ → ℕ → List ℕ → Result
 translate h guest pc limit output =
+    let f = fence max-instrs h guest pc limit in
     cond (bad-slot-offset (h .«slot_offset»)) (refused Refusals.slot-offset output)
-    (of-block (compile-native-block max-instrs h guest pc limit) (no-block guest pc limit) output)
+    (of-block (compile-native-block max-instrs h guest pc (limit-at f limit)) (no-block guest pc limit) f output)

@@ -1,18 +1,30 @@
 // The operation Translate: `compile_native_block`, with document 01's refusals around it.
 ghost use mathlib.Core.Path.{_≡_};
 ghost use mathlib.Core.List.{[]};
+ghost use mathlib.Core.Option.{Option};
+ghost use Prim.Native.Nat.{ℕ};
+ghost use Rattle.jit_arm64.specs.Parts.{is-fenced};
 ghost use Rattle.translator.specs.Translate as T;
 use emit_native::Host;
 use jit_arm64::block;
 use jit_arm64::block::Stop;
 use rules::refusals;
 
-// The refusal, 0 where the block was written; its length in bytes, its count of instructions, and 1 where a helper ended it.
+// How a block ends (document 02, No. 3).
+pub enum EndKind {
+    Plain,
+    // a helper ended it
+    Helper,
+    // FENCE.I ended it
+    Drop,
+}
+
+// The refusal, 0 where the block was written; its length in bytes, its count of instructions, and the number of its end kind.
 pub struct Answer {
     pub refusal: u32,
     pub length: u32,
     pub count: u32,
-    pub helper: u32,
+    pub end: u32,
 }
 
 fn refuse(n: u32) -> Answer
@@ -22,19 +34,29 @@ fn refuse(n: u32) -> Answer
         refusal: n,
         length: 0,
         count: 0,
-        helper: 0,
+        end: 0,
     }
 }
 
-fn by_helper(stop: Stop) -> u32
-    ensures { λ r. ⌜ r ≡ T.by-helper stop ⌝ }
+fn end_kind(fence: bool, stop: Stop) -> EndKind
+    ensures { λ r. ⌜ ((f : Option ℕ) → fence ≡ is-fenced f → r ≡ T.end-kind f stop) ⌝ }
 {
-    match stop {
-        Stop::Helper => 1,
-        Stop::Limit => 0,
-        Stop::Ended => 0,
-        Stop::Uncovered => 0,
-        Stop::NotFetched => 0,
+    if fence {
+        return EndKind::Drop;
+    }
+    if let Stop::Helper = stop {
+        return EndKind::Helper;
+    }
+    EndKind::Plain
+}
+
+fn end_number(k: EndKind) -> u32
+    ensures { λ r. ⌜ r ≡ T.end-number k ⌝ }
+{
+    match k {
+        EndKind::Plain => 1,
+        EndKind::Helper => 2,
+        EndKind::Drop => 3,
     }
 }
 
@@ -70,6 +92,7 @@ pub fn translate(guest: &[u8], pc: u64, limit: u32, host: Host, output: &mut [u8
     let found = block::compile_native_block(guest, pc, limit, host);
     let count = found.count;
     let stop = found.stop;
+    let end = end_kind(found.fence, stop);
     let em = found.em;
     let length = em.finish(output);
     if output.len() < length {
@@ -79,6 +102,6 @@ pub fn translate(guest: &[u8], pc: u64, limit: u32, host: Host, output: &mut [u8
         refusal: 0,
         length: length as u32,
         count,
-        helper: by_helper(stop),
+        end: end_number(end),
     }
 }

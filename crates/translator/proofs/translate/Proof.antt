@@ -13,12 +13,12 @@ returns c =
 returns-2 : tie.Need-returns-2
 returns-2 c =
     let a = c .before .before .before .before .before .before .args in
-    rw (c .refuse2 .ensures) (no-limit (a .host) (a .guest .now) (a .pc) (a .limit) (search needs) (sym (c .before .before .before .bad-slot-offset .ensures) ∙ c .before .before .if1 .left) (a .output .now) (c .before .if2 .taken))
+    rw (c .refuse2 .ensures) (no-limit (a .host) (a .guest .now) (a .pc) (a .limit) (c .before .before .before .before .before .before .fits .pc .fits) (sym (c .before .before .before .bad-slot-offset .ensures) ∙ c .before .before .if1 .left) (a .output .now) (c .before .if2 .taken))
 
 returns-3 : tie.Need-returns-3
 returns-3 c =
     let a = c .before .before .before .before .before .before .before .args in
-    rw (c .refuse3 .ensures) (odd (a .host) (a .guest .now) (a .pc) (a .limit) (search needs) (sym (c .before .before .before .before .bad-slot-offset .ensures) ∙ c .before .before .before .if1 .left) (c .before .before .if2 .left) (a .output .now) (c .before .if3 .taken))
+    rw (c .refuse3 .ensures) (odd (a .host) (a .guest .now) (a .pc) (a .limit) (c .before .before .before .before .before .before .before .fits .pc .fits) (sym (c .before .before .before .before .bad-slot-offset .ensures) ∙ c .before .before .before .if1 .left) (c .before .before .if2 .left) (a .output .now) (c .before .if3 .taken))
 
 first-refusal-requires : tie.Need-first-refusal-requires
 first-refusal-requires c κs = at-most _ (sym (c .before .before .before .bad-slot-offset .ensures) ∙ c .before .before .if1 .left)
@@ -27,7 +27,7 @@ returns-4 : tie.Need-returns-4
 returns-4 c =
     let a = c .before .before .before .before .before .before .before .before .before .args in
     rw (c .refuse4 .ensures)
-    (by-first (a .host) (a .guest .now) (a .pc) (a .limit) (search needs) (sym (c .before .before .before .before .before .before .bad-slot-offset .ensures) ∙ c .before .before .before .before .before .if1 .left) (c .before .before .before .before .if2 .left) (c .before .before .before .if3 .left) (a .output .now)
+    (by-first (a .host) (a .guest .now) (a .pc) (a .limit) (c .before .before .before .before .before .before .before .before .before .fits .pc .fits) (sym (c .before .before .before .before .before .before .bad-slot-offset .ensures) ∙ c .before .before .before .before .before .if1 .left) (c .before .before .before .before .if2 .left) (c .before .before .before .if3 .left) (a .output .now)
     (c .before .before .first-refusal .ensures) (c .before .if4 .taken))
 
 compile-native-block-requires : tie.Need-compile-native-block-requires
@@ -35,27 +35,22 @@ compile-native-block-requires c κs = at-most _ (sym (c .before .before .before 
 
 returns-5 : tie.Need-returns-5
 returns-5 c =
-    let d = c .before .before .before .before .before .before .before in
-    let a = d .before .before .before .before .before .before .before .before .before .args in
+    let a = c .before .before .before .before .before .before .before .before .before .before .before .before .before .before .before .before .before .args in
     rw (c .refuse5 .ensures)
-    (too-short (a .host) (a .guest .now) (a .pc) (a .limit) (d .before .before .before .before .before .before .before .before .before .fits .pc .fits) (sym (c .before .before .before .before .before .before .before .before .before .before .before .before .before .bad-slot-offset .ensures) ∙ c .before .before .before .before .before .before .before .before .before .before .before .before .if1 .left) (c .before .before .before .before .before .before .before .before .before .before .before .if2 .left) (c .before .before .before .before .before .before .before .before .before .before .if3 .left)
-    (c .before .before .before .before .before .before .before .before .before .first-refusal .ensures) (c .before .before .before .before .before .before .before .before .if4 .left) (d .compile-native-block .result) (d .compile-native-block .ensures) (a .output .now)
-    (c .before .before .before .before .finish .ensures) (search needs))
+    (too-short (a .host) (a .guest .now) (a .pc) (a .limit) (c .before .before .before .before .before .before .before .before .before .before .before .before .before .before .before .before .before .fits .pc .fits) (sym (c .before .before .before .before .before .before .before .before .before .before .before .before .before .before .bad-slot-offset .ensures) ∙ c .before .before .before .before .before .before .before .before .before .before .before .before .before .if1 .left) (c .before .before .before .before .before .before .before .before .before .before .before .before .if2 .left) (c .before .before .before .before .before .before .before .before .before .before .before .if3 .left)
+    (c .before .before .before .before .before .before .before .before .before .before .first-refusal .ensures) (c .before .before .before .before .before .before .before .before .before .if4 .left) (c .before .before .before .before .before .before .before .before .compile-native-block .result) (c .before .before .before .before .before .before .before .before .compile-native-block .ensures) (a .output .now) (c .before .before .before .before .finish .ensures) (search needs))
 
-cast-t18 : tie.Need-cast-t18
-cast-t18 c =
-    let d = c .before .before .before .before .before .before in
-    let k = few-bytes (d .compile-native-block .result .em) _ _ _ (search needs) (c .before .before .before .finish .ensures) in
+cast-t19 : tie.Need-cast-t19
+cast-t19 c =
+    let k = few-bytes (c .before .before .before .before .before .before .before .compile-native-block .result .em) _ _ _ (search needs) (c .before .before .before .finish .ensures) in
     omega arith
 
 returns-6 : tie.Need-returns-6
 returns-6 c =
-    let d = c .before .before .before .before .before .before .before in
-    let a = d .before .before .before .before .before .before .before .before .before .args in
-    rw (c .by-helper .ensures)
-    (is-accepted (a .host) (a .guest .now) (a .pc) (a .limit) (search needs) (sym (c .before .before .before .before .before .before .before .before .before .before .before .before .before .bad-slot-offset .ensures) ∙ c .before .before .before .before .before .before .before .before .before .before .before .before .if1 .left) (c .before .before .before .before .before .before .before .before .before .before .before .if2 .left) (c .before .before .before .before .before .before .before .before .before .before .if3 .left)
-    (c .before .before .before .before .before .before .before .before .before .first-refusal .ensures) (c .before .before .before .before .before .before .before .before .if4 .left) (d .compile-native-block .result) (d .compile-native-block .ensures) (a .output .now)
-    (c .before .before .before .before .finish .ensures) (search needs))
+    let a = c .before .before .before .before .before .before .before .before .before .before .before .before .before .before .before .before .before .args in
+    is-accepted (a .host) (a .guest .now) (a .pc) (a .limit) (c .before .before .before .before .before .before .before .before .before .before .before .before .before .before .before .before .before .fits .pc .fits) (sym (c .before .before .before .before .before .before .before .before .before .before .before .before .before .before .bad-slot-offset .ensures) ∙ c .before .before .before .before .before .before .before .before .before .before .before .before .before .if1 .left) (c .before .before .before .before .before .before .before .before .before .before .before .before .if2 .left) (c .before .before .before .before .before .before .before .before .before .before .before .if3 .left)
+    (c .before .before .before .before .before .before .before .before .before .before .first-refusal .ensures) (c .before .before .before .before .before .before .before .before .before .if4 .left) (c .before .before .before .before .before .before .before .before .compile-native-block .result) (c .before .before .before .before .before .before .before .before .compile-native-block .ensures) (a .output .now) (c .before .before .before .before .finish .ensures)
+    (c .before .before .before .before .before .before .before .end-kind .ensures) (c .end-number .ensures) (search needs)
 
 pub translate-spec : {M : Type 1} → statement M
 translate-spec =
@@ -74,9 +69,10 @@ translate-spec =
     compile-native-block-requires
     (λ c κs. search needs)
     (λ c κs. search needs)
+    (λ c κs. search needs)
     (λ c. search needs)
     returns-5
-    cast-t18
+    cast-t19
     (λ c κs. search needs)
     (λ c. search needs)
     returns-6)
