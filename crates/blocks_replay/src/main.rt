@@ -29,12 +29,12 @@ fn wide(b: u8) -> u32 {
 // Whether the recorded answer is this one; `found` is what the file has between the question and the words.
 fn same_answer(answer: Answer, found: &[u8; 5]) -> bool {
     answer.refusal == wide(found[0])
-        && answer.helper == wide(found[1])
+        && answer.end == wide(found[1])
         && answer.count == wide(found[2])
         && answer.length == 4 * (le::load16(found, 3) as u32)
 }
 
-// Compares refusal, helper mark, count, length and every byte of the output. `output` and `expected` come with the same
+// Compares refusal, end kind, count, length and every byte of the output. `output` and `expected` come with the same
 // bytes, and the recorded words go to the front of `expected`: the bytes after them, and all under a refusal, must stay.
 fn agrees(fd: i32, guest: &[u8], asked: &[u8; 49], output: &mut [u8], expected: &mut [u8]) -> bool {
     let answer = ask(guest, asked, output);

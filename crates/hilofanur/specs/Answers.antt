@@ -34,7 +34,7 @@ translate-result a output = record { answer = a; output = output }
 abbrev pub translate-of : T.Result → TranslateResult
 translate-of r =
     let a = r .answer in
-    translate-result (record { refusal = a .refusal; length = a .length; count = a .count; helper = a .helper }) (r .output)
+    translate-result (record { refusal = a .refusal; length = a .length; count = a .count; end = a .end }) (r .output)
 
 abbrev pub translate : List ℕ → ℕ → ℕ → Host → List ℕ → TranslateResult
 translate guest pc limit host output = translate-of (T.translate host guest pc limit output)

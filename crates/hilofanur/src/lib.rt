@@ -1,7 +1,7 @@
 // The operations over the C boundary: numbers and byte slices.
 ghost use mathlib.Core.Path.{_≡_};
 ghost use lib.ListN.{take};
-ghost use Rattle.translation.specs.Demand3.{Demand3};
+ghost use Rattle.translation.specs.Demand3.{HelperFree, Demand3};
 ghost use Rattle.listing.specs.Listing.{Lists};
 ghost use Rattle.block_log.specs.Log.{emptied};
 ghost use Rattle.block_index.specs.History.{Looks, Places};
@@ -10,13 +10,13 @@ use emit_native::Host;
 use state_bytes::a64_state;
 use state_bytes::rv64_hart;
 
-// The refusal, 0 where the block was written; its length in bytes; its count of instructions; 1 where a helper ended it.
+// The refusal, 0 where the block was written; its length in bytes; its count of instructions; the number of its end kind.
 #[repr(C)]
 pub struct TranslateAnswer {
     pub refusal: u32,
     pub length: u32,
     pub count: u32,
-    pub helper: u32,
+    pub end: u32,
 }
 
 // The refusal, 0 where the code was placed; where it starts; how much of the store is then used.
@@ -80,7 +80,7 @@ pub extern "C" fn hilofanur_translate(
     output: &mut [u8],
 ) -> TranslateAnswer
     ensures { λ r. ⌜ Answers.translate-result r (now (output .exit)) ≡ Answers.translate (now (guest .entry)) pc limit (Answers.host «ignore_ebreak» «slot_offset» «memory_helper» helper32 helper16) (now (output .entry)) ⌝ }
-    ensures { λ r. ⌜ (r .refusal ≡ 0 → r .helper ≡ 0 → Demand3 (now (guest .entry)) pc limit «ignore_ebreak» «slot_offset» (take (r .length) (now (output .exit))) (r .count)) ⌝ }
+    ensures { λ r. ⌜ (HelperFree (r .end) → Demand3 (now (guest .entry)) pc limit «ignore_ebreak» «slot_offset» (take (r .length) (now (output .exit))) (r .count)) ⌝ }
 {
     let host = Host {
         slot_offset,
@@ -94,7 +94,7 @@ pub extern "C" fn hilofanur_translate(
         refusal: a.refusal,
         length: a.length,
         count: a.count,
-        helper: a.helper,
+        end: a.end,
     }
 }
 

@@ -1,6 +1,6 @@
--- Every 32-bit encoding: the Rust's emission agrees with the ISA's instruction. Assumes nothing.
+-- Every 32-bit encoding: it is FENCE.I, or the Rust's emission agrees with the ISA's instruction. Assumes nothing.
 use mathlib.Core.Path.{_≡_, refl}
-use mathlib.Core.Bool.{Bool, true, false, cond, _&&_, _||_}
+use mathlib.Core.Bool.{Bool, true, false, cond, _&&_, _||_, true≢false}
 use mathlib.Core.List.{List, [], _∷_}
 use mathlib.Core.Option.{Option}
 use Prim.Native.Nat.{ℕ, zero, suc, _+_, _*_, _/_, _%_, _^_, _<_}
@@ -20,10 +20,12 @@ use Rattle.rv64.specs.Decode.{Table, lookup}
 use Rattle.emit_native.specs.Calls.{Call, mov-imm64, load, Emission, continue, none, calls-first, store-rd, then-store-rd}
 use Rattle.isa.specs.Decode as Rust
 use Rattle.instr32.specs.Instr32 as I32
+use Rattle.jit_arm64.specs.Fence.{is-fence-i}
+use Rattle.jit_arm64.proofs.Fences.{fence-fields}
 use Rattle.isa.proofs.Decoding.{imm-i-is, imm-b-is, imm-u-is, imm-j-is}
 use Rattle.translation.proofs.Calls.{Model, Kept, calls-run}
 use Rattle.translation.proofs.Alus.{body, slliw, srliw, sraiw, body-law, slliw-law, srliw-law, sraiw-law}
-use Rattle.translation.proofs.Instrs.{Agrees, Fine, nothing, one, two, with-constant, body-fine, slliw-fine, srliw-fine, sraiw-fine, condition, op-agrees, imm-agrees, lui-agrees, auipc-agrees, jal-agrees, jalr-agrees, branch-agrees, nop-agrees, fence-i-agrees, uncovered-agrees, helper-agrees}
+use Rattle.translation.proofs.Instrs.{Agrees, Fences, Fine, nothing, one, two, with-constant, body-fine, slliw-fine, srliw-fine, sraiw-fine, condition, op-agrees, imm-agrees, lui-agrees, auipc-agrees, jal-agrees, jalr-agrees, branch-agrees, nop-agrees, uncovered-agrees, helper-agrees}
 
 -- what holds at 0 to 7 holds below 8
 pub digit : (P : ℕ → Type 0) → P 0 → P 1 → P 2 → P 3 → P 4 → P 5 → P 6 → P 7 → (n : ℕ) → n < 8 → P n
@@ -186,9 +188,17 @@ opcode-of n =
     is n 0x37 lui (λ a. is n 0x17 auipc (λ b. is n 0x6F jal (λ c. is n 0x67 jalr (λ d. is n 0x63 branch (λ e. is n 0x13 op-imm (λ f.
     is n 0x1B op-imm-32 (λ g. is n 0x3B op-32 (λ h. is n 0x33 op (λ i. is n 0x0F misc-mem (λ j. other n (a, b, c, d, e, f, g, h, i, j)))))))))))
 
--- ---- the encodings
+-- ---- FENCE.I
 
-module _ (r₀ : ℕ → ℕ) (pc : ℕ) (v : Model) (κ : Kept r₀ true v) (z : getD (v .slots) 0 0 ≡ 0) (w : ℕ) (hw : w < 2 ^ 32) where
+pub fences32 : (pc w : ℕ) → is-fence-i w ≡ true → Fences (D.decode32 w) (I32.emit-native-instr pc w (Rust.decode32 w))
+unfolding D.decode32 D.by-class class-of D.misc-mem D.fences I32.emit-native-instr I32.misc-mem
+fences32 pc w h =
+    let q = fence-fields w h in
+    record { instr = rw (q .0, q .1) refl; emission = rw (q .0, q .1) refl }
+
+-- ---- the other encodings
+
+module _ (r₀ : ℕ → ℕ) (pc : ℕ) (v : Model) (κ : Kept r₀ true v) (z : getD (v .slots) 0 0 ≡ 0) (w : ℕ) (hw : w < 2 ^ 32) (hf : is-fence-i w ≡ false) where
   f3-lt : funct3 w < 8
   f3-lt = omega arith
 
@@ -331,11 +341,11 @@ module _ (r₀ : ℕ → ℕ) (pc : ℕ) (v : Model) (κ : Kept r₀ true v) (z 
       digit (λ t. Agrees 4 pc v (lookup D.branches t (D.on w) Instr.Uncovered) (I32.branch pc w (Rust.decode32 w) t))
       (branch-on-is Cond.Eq) (branch-on-is Cond.Ne) no-words no-words (branch-on-is Cond.Lt) (branch-on-is Cond.Ge) (branch-on-is Cond.Ltu) (branch-on-is Cond.Geu)
 
-  misc-mem-by : (t : ℕ) → t < 8 → funct3 w ≡ t → Agrees 4 pc v (D.misc-mem w) (I32.misc-mem (Rust.decode32 w))
+  misc-mem-by : w % 128 ≡ 0x0F → (t : ℕ) → t < 8 → funct3 w ≡ t → Agrees 4 pc v (D.misc-mem w) (I32.misc-mem (Rust.decode32 w))
   unfolding D.misc-mem D.fences I32.misc-mem
-  misc-mem-by =
+  misc-mem-by q =
       digit (λ t. funct3 w ≡ t → Agrees 4 pc v (D.misc-mem w) (I32.misc-mem (Rust.decode32 w)))
-      (λ e. rw e (nop-agrees r₀ 4 pc v κ z)) (λ e. rw e (fence-i-agrees r₀ 4 pc v κ z)) (λ e. rw e no-words) (λ e. rw e no-words)
+      (λ e. rw e (nop-agrees r₀ 4 pc v κ z)) (λ e. absurd (true≢false (rw (q, e) at hf))) (λ e. rw e no-words) (λ e. rw e no-words)
       (λ e. rw e no-words) (λ e. rw e no-words) (λ e. rw e no-words) (λ e. rw e no-words)
 
   -- helpers and what is never inline
@@ -361,7 +371,7 @@ module _ (r₀ : ℕ → ℕ) (pc : ℕ) (v : Model) (κ : Kept r₀ true v) (z 
   by-opcode _ op-imm-32 e = rw e (op-imm-32-by (funct3 w) f3-lt)
   by-opcode _ op-32 e = rw e (by-table D.ops32 I32.op-32-arm op-32-rows)
   by-opcode _ op e = rw e (by-table D.ops I32.op-arm op-rows)
-  by-opcode _ misc-mem e = rw e (misc-mem-by (funct3 w) f3-lt refl)
+  by-opcode _ misc-mem e = rw e (misc-mem-by e (funct3 w) f3-lt refl)
   by-opcode n (other _ q) e =
       rw (e, q .0, q .1, q .2, q .3, q .4, q .5, q .6, q .7, q .8, q .9)
       (any (eqb n 0b0000011) Class.Load _ (either (ltb (funct3 w) 7))

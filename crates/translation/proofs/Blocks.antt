@@ -35,11 +35,13 @@ use Rattle.instr16.specs.Instr16 as I16
 use Rattle.instr32.specs.Instr32 as I32
 use Rattle.term_helper.specs.TermHelper as TH
 use Rattle.jit_arm64.specs.Block.{Walk, walked, in-front, emit-native, emit-term-helper, helped, step, instr-walk, walk, fetch, fetch-upper}
-use Rattle.translator.specs.Translate.{by-helper}
+use Rattle.jit_arm64.specs.Fence.{is-fence-i}
+use Rattle.emit_native.proofs.Size.{by}
 use Rattle.translation.proofs.Calls.{Model, call-step, calls-run, scratch, fits, all-fit, all-keep, AllIn, Kept, calls-kept, is-true}
 use Rattle.translation.proofs.Instrs.{run-append, fit-append, in-append, Fine, Matches, nothing}
-use Rattle.translation.proofs.Agree32.{agrees32}
+use Rattle.translation.proofs.Agree32.{fences32, agrees32}
 use Rattle.translation.proofs.Agree16.{agrees16}
+use Rattle.translation.proofs.Fences.{behind, cut, narrow}
 
 -- ---- what an instruction keeps
 
@@ -167,20 +169,20 @@ module _ (r₀ : ℕ → ℕ) (start : ℕ) where
   -- the walk and the guest's run from index i on, unless a helper ends it
   abbrev Follows : ℕ → Walk → (Hart → Ran) → Type 0
   Follows i w run =
-      (u : Model) → Kept r₀ true u → getD (u .slots) 0 0 ≡ 0 → by-helper (w .stop) ≡ 0 → Walks w u (run (Rv64.hart (u .slots) (add start i)))
+      (u : Model) → Kept r₀ true u → getD (u .slots) 0 0 ≡ 0 → (w .stop ≡ Stop.Helper → ⊥) → Walks w u (run (Rv64.hart (u .slots) (add start i)))
 
   helped-walks : (e h : Emission) (size i n : ℕ) (why : RS.Stop) (v : Model) (rest : ℕ → ℕ → Walk) → Quiet h → Fine (e .calls)
-      → by-helper (step EmitFlow.None e h size start n i rest .stop) ≡ 0
+      → (step EmitFlow.None e h size start n i rest .stop ≡ Stop.Helper → ⊥)
       → Walks (step EmitFlow.None e h size start n i rest) v (Rv64.stopped (Rv64.hart (v .slots) (add start i)) n why)
-  unfolding step helped by-helper next-calls
-  helped-walks e h size i n why v rest (inl p) φ free = absurd (omega (arith, rw p at free))
+  unfolding step helped next-calls
+  helped-walks e h size i n why v rest (inl p) φ free = absurd (free (rw p refl))
   helped-walks e h size i n why v rest (inr p) φ free =
       rw (p, append-nil (e .calls)) (stop-walks (e .calls) n (add start i) Stop.Uncovered why v refl φ (omega arith))
 
   step-walks : (f : Flow) (x : List ℕ) (e h : Emission) (size i n : ℕ) (v : Model) (rest : ℕ → ℕ → Walk) (run : Hart → Ran)
       → Quiet h → Matches size (add start i) v x f e → Stays f x (v .slots) → getD x 0 0 ≡ 0 → Kept r₀ true v
       → Follows (i + size) (rest (suc n) (i + size)) run
-      → by-helper (step (e .flow) e h size start n i rest .stop) ≡ 0
+      → (step (e .flow) e h size start n i rest .stop ≡ Stop.Helper → ⊥)
       → Walks (step (e .flow) e h size start n i rest) v (Rv64.onward f x (add start i) n run)
   unfolding step Rv64.onward next-calls
   step-walks (Flow.Next to) x e h size i n v rest run hq m st z κ go free =
@@ -188,7 +190,7 @@ module _ (r₀ : ℕ → ℕ) (start : ℕ) where
       let stay : all-keep true cs ≡ true = is-true (all-keep true cs) (m .stay) in
       let κ′ : Kept r₀ true (calls-run cs v) = rw stay at (calls-kept r₀ cs true v (m .does .fit) (m .does .range) κ) in
       let w = rest (suc n) (i + size) in
-      let free′ : by-helper (w .stop) ≡ 0 = rw (m .flow) at free in
+      let free′ : w .stop ≡ Stop.Helper → ⊥ = rw (m .flow) at free in
       let y = go (calls-run cs v) κ′ (rw (m .does .slots) z) free′ in
       let q = front-calls cs w in
       let p : to ≡ add start (i + size) = m .next ∙ omega arith in
@@ -209,26 +211,44 @@ module _ (r₀ : ℕ → ℕ) (start : ℕ) where
   step-walks Flow.Uncovered x e h size i n v rest run hq m st z κ go free =
       rw (m .flow, st) (helped-walks e h size i n RS.Stop.Uncovered v rest hq (m .fine) (rw (m .flow) at free))
 
-  module _ (host : Host) where
+  -- FENCE.I, the last of the walk and of the guest's run
+  fence-walks : (i n : ℕ) (v : Model)
+      → Walks (walked [] (suc n) Stop.Limit (add start (i + 4))) v (Rv64.stopped (Rv64.hart (v .slots) (add (add start i) 4)) (n + 1) RS.Stop.Ended)
+  unfolding next-calls
+  fence-walks i n v =
+      let p : add (add start i) 4 ≡ add start (i + 4) = omega arith in
+      let q : n + 1 ≡ suc n = omega arith in
+      rw (p, q) (stop-walks [] (suc n) (add start (i + 4)) Stop.Limit RS.Stop.Ended v refl nothing (omega arith))
+
+  module _ (host : Host) (guest : List ℕ) where
     -- what was fetched: nothing, or an instruction of 16 or of 32 bits
-    instr-walks : (a b c : Bool) (w u : ℕ) → eqb (w % 4) 3 ≡ b → (b ≡ true → eqb (u % 4) 3 ≡ true) → (i n : ℕ) (v : Model) (rest : ℕ → ℕ → Walk) (run : ℕ → Hart → Ran)
-        → w < 2 ^ 16 → u < 2 ^ 32 → Kept r₀ true v → getD (v .slots) 0 0 ≡ 0 → ((size : ℕ) → size % 2 ≡ 0 → Follows (i + size) (rest (suc n) (i + size)) (run size))
-        → by-helper (instr-walk host (cond a (cond b (cond c (some u) none) (some w)) none) start n i rest .stop) ≡ 0
-        → Walks (instr-walk host (cond a (cond b (cond c (some u) none) (some w)) none) start n i rest) v
+    abbrev found : Bool → Bool → Bool → ℕ → ℕ → Option ℕ
+    found a b c w u = cond a (cond b (cond c (some u) none) (some w)) none
+
+    -- left: how many instructions follow one of so many bytes
+    instr-walks : (a b c : Bool) (w u : ℕ) → eqb (w % 4) 3 ≡ b → (b ≡ true → eqb (u % 4) 3 ≡ true) → (i n : ℕ) (v : Model) (left : ℕ → ℕ) (run : ℕ → Hart → Ran)
+        → w < 2 ^ 16 → u < 2 ^ 32 → Kept r₀ true v → getD (v .slots) 0 0 ≡ 0
+        → ((size : ℕ) → size % 2 ≡ 0 → Follows (i + size) (walk host guest start (left size) (suc n) (i + size)) (run size))
+        → (instr-walk host (found a b c w u) start n i (walk host guest start (behind (found a b c w u) left)) .stop ≡ Stop.Helper → ⊥)
+        → Walks (instr-walk host (found a b c w u) start n i (walk host guest start (behind (found a b c w u) left))) v
         (Rv64.step (cond (not a) RF.Fetched.Missing (cond (not b) (RF.Fetched.Found (C.decode16 (host .«ignore_ebreak») w) 2) (cond (not c) RF.Fetched.Missing (RF.Fetched.Found (D.decode32 u) 4)))) (Rv64.hart (v .slots) (add start i)) n run)
-    unfolding instr-walk emit-native emit-term-helper Rv64.step next-calls
-    instr-walks false b c w u qw qu i n v rest run hw hu κ z go free = stop-walks [] n (add start i) Stop.NotFetched RS.Stop.NotFetched v refl nothing (omega arith)
-    instr-walks true false c w u qw qu i n v rest run hw hu κ z go free =
+    unfolding instr-walk behind emit-native emit-term-helper Rv64.step next-calls
+    instr-walks false b c w u qw qu i n v left run hw hu κ z go free = stop-walks [] n (add start i) Stop.NotFetched RS.Stop.NotFetched v refl nothing (omega arith)
+    instr-walks true false c w u qw qu i n v left run hw hu κ z go free =
         let j = C.decode16 (host .«ignore_ebreak») w in
-        rw qw
-        (step-walks _ _ (I16.emit-native-instr16 (host .«ignore_ebreak») (add start i) w) _ 2 i n v rest (run 2) (quiet16 host (add start i) w n) (agrees16 r₀ (add start i) v κ z w hw (host .«ignore_ebreak»))
-        (exec-stays j 2 (add start i) (v .slots)) (exec-zero j 2 (add start i) (v .slots) ∙ z) κ (go 2 refl) (rw qw at free))
-    instr-walks true true false w u qw qu i n v rest run hw hu κ z go free = stop-walks [] n (add start i) Stop.NotFetched RS.Stop.NotFetched v refl nothing (omega arith)
-    instr-walks true true true w u qw qu i n v rest run hw hu κ z go free =
+        let f = narrow w qw in
+        rw (qw, f)
+        (step-walks _ _ (I16.emit-native-instr16 (host .«ignore_ebreak») (add start i) w) _ 2 i n v (walk host guest start (left 2)) (run 2) (quiet16 host (add start i) w n) (agrees16 r₀ (add start i) v κ z w hw (host .«ignore_ebreak»))
+        (exec-stays j 2 (add start i) (v .slots)) (exec-zero j 2 (add start i) (v .slots) ∙ z) κ (go 2 refl) (rw (qw, f) at free))
+    instr-walks true true false w u qw qu i n v left run hw hu κ z go free = stop-walks [] n (add start i) Stop.NotFetched RS.Stop.NotFetched v refl nothing (omega arith)
+    instr-walks true true true w u qw qu i n v left run hw hu κ z go free =
         let j = D.decode32 u in
-        rw (qu refl)
-        (step-walks _ _ (I32.emit-native-instr (add start i) u (Rust.decode32 u)) _ 4 i n v rest (run 4) (quiet32 host (add start i) u n (Rust.decode32 u)) (agrees32 r₀ (add start i) v κ z u hu)
-        (exec-stays j 4 (add start i) (v .slots)) (exec-zero j 4 (add start i) (v .slots) ∙ z) κ (go 4 refl) (rw (qu refl) at free))
+        by (is-fence-i u)
+        (λ f. let s = fences32 (add start i) u f in rw (qu refl, f, s .instr, s .emission) (unfold step walk exec Rv64.onward in (fence-walks i n v)))
+        (λ f.
+        rw (qu refl, f)
+        (step-walks _ _ (I32.emit-native-instr (add start i) u (Rust.decode32 u)) _ 4 i n v (walk host guest start (left 4)) (run 4) (quiet32 host (add start i) u n (Rust.decode32 u)) (agrees32 r₀ (add start i) v κ z u hu f)
+        (exec-stays j 4 (add start i) (v .slots)) (exec-zero j 4 (add start i) (v .slots) ∙ z) κ (go 4 refl) (rw (qu refl, f) at free)))
 
     short : (i k l : ℕ) → 0 < k → ltb (l - i) k ≡ not (leb (i + k) l)
     short i k l h = by (leb (i + k) l) refl
@@ -247,18 +267,18 @@ module _ (r₀ : ℕ → ℕ) (start : ℕ) where
     unfolding load
     from-drop k m i = refl
 
-    -- the whole walk
-    pub walk-walks : (guest : List ℕ) → Bytes guest → start < 2 ^ 64 → (k n i : ℕ) (v : Model) → add start i % 2 ≡ 0 → Kept r₀ true v → getD (v .slots) 0 0 ≡ 0
-        → by-helper (walk host guest start k n i .stop) ≡ 0
-        → Walks (walk host guest start k n i) v (Rv64.run (host .«ignore_ebreak») k n (drop i guest) (Rv64.hart (v .slots) (add start i)))
-    unfolding walk Rv64.run fetch fetch-upper Rv64.fetch next-calls
-    walk-walks guest hb hs zero n i v he κ z free = stop-walks [] n (add start i) Stop.Limit RS.Stop.Limit v refl nothing (omega arith)
-    walk-walks guest hb hs (suc k) n i v he κ z free =
+    -- the whole walk, up to the first FENCE.I
+    pub walk-walks : Bytes guest → start < 2 ^ 64 → (k n i : ℕ) (v : Model) → add start i % 2 ≡ 0 → Kept r₀ true v → getD (v .slots) 0 0 ≡ 0
+        → (walk host guest start (cut guest start k i) n i .stop ≡ Stop.Helper → ⊥)
+        → Walks (walk host guest start (cut guest start k i) n i) v (Rv64.run (host .«ignore_ebreak») k n (drop i guest) (Rv64.hart (v .slots) (add start i)))
+    unfolding walk cut Rv64.run fetch fetch-upper Rv64.fetch next-calls
+    walk-walks hb hs zero n i v he κ z free = stop-walks [] n (add start i) Stop.Limit RS.Stop.Limit v refl nothing (omega arith)
+    walk-walks hb hs (suc k) n i v he κ z free =
         let p : n + 1 ≡ suc n = omega arith in
         let l : length (drop i guest) ≡ length guest - i = length-drop i guest in
         let o : eqb (add start i % 2) 0 ≡ true = eq-eqb (add start i % 2) 0 he in
         rw (o, word-at guest i, from-drop 2 guest i, from-drop 4 guest i, l, short i 2 (length guest) (omega arith), short i 4 (length guest) (omega arith))
         (instr-walks (leb (i + 2) (length guest)) (eqb (load 2 guest i % 4) 3) (leb (i + 4) (length guest)) (load 2 guest i) (load 4 guest i) refl (wide guest i) i n v
-        (walk host guest start k) (λ size. Rv64.run (host .«ignore_ebreak») k (n + 1) (drop size (drop i guest))) (load-lt 2 guest i hb) (load-lt 4 guest i hb) κ z
-        (λ size e u κ′ z′ f. rw (p, drop-drop size i guest) (walk-walks guest hb hs k (suc n) (i + size) u (omega (arith, he, e)) κ′ z′ f))
+        (λ size. cut guest start k (i + size)) (λ size. Rv64.run (host .«ignore_ebreak») k (n + 1) (drop size (drop i guest))) (load-lt 2 guest i hb) (load-lt 4 guest i hb) κ z
+        (λ size e u κ′ z′ f. rw (p, drop-drop size i guest) (walk-walks hb hs k (suc n) (i + size) u (omega (arith, he, e)) κ′ z′ f))
         (rw (o, word-at guest i) at free))

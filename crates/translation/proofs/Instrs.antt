@@ -94,6 +94,11 @@ Matches n pc v x Flow.Uncovered e = Leaves e
 abbrev pub Agrees : ℕ → ℕ → Model → Instr → Emission → Type 0
 Agrees n pc v i e = Matches n pc v (exec i n pc (v .slots) .x) (exec i n pc (v .slots) .flow) e
 
+-- FENCE.I instead: the guest's run ends behind it, where the Rust makes no call and goes on
+pub record Fences (i : Instr) (e : Emission) : Type 0 where
+  pub instr : i ≡ Instr.FenceI
+  pub emission : e ≡ continue []
+
 -- ---- the parts
 
 pub nothing : Fine []
@@ -352,10 +357,6 @@ module _ (r₀ : ℕ → ℕ) (n pc : ℕ) (v : Model) (κ : Kept r₀ true v) (
   pub nop-agrees : Agrees n pc v Instr.Nop (continue [])
   unfolding exec all-fit all-keep calls-run
   nop-agrees = record { flow = refl; does = record { fit = tt; range = tt; slots = refl }; stay = tt; next = refl }
-
-  pub fence-i-agrees : Agrees n pc v Instr.FenceI (continue [])
-  unfolding exec
-  fence-i-agrees = nop-agrees
 
   -- leftovers
   pub uncovered-agrees : (cs : List Call) → Fine cs → Agrees n pc v Instr.Uncovered (none cs)

@@ -7,6 +7,7 @@ pub mod Alus
 pub mod Instrs
 pub mod Agree32
 pub mod Agree16
+pub mod Fences
 pub mod Blocks
 pub mod Helpers
 pub mod Whole

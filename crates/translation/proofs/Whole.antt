@@ -1,4 +1,4 @@
--- Demand 3 for the block of a walk. Assumes nothing.
+-- Demand 3 for the block of a walk, at the limit that FENCE.I leaves. Assumes nothing.
 use mathlib.Core.Path.{_≡_, refl, sym, ap, _∙_, subst}
 use mathlib.Core.Bool.{Bool, true, false}
 use mathlib.Core.Logic.{_⊎_, inl, inr}
@@ -28,13 +28,14 @@ use Rattle.a64_emitter.specs.Writers.{ret}
 use Rattle.emit_native.specs.Calls.{Call, emit, mov-imm64, words-in, words, reg-off, Emission}
 use mathlib.Core.Option.{Option, none, some}
 use Rattle.emit_native.specs.declared.EmitFlow.{EmitFlow}
-use Rattle.jit_arm64.specs.Block.{Walk, size-of, helped, step, instr-walk, walk, end-calls, block-calls, whole-walk, block-of}
-use Rattle.translator.specs.Translate.{by-helper}
+use Rattle.jit_arm64.specs.Block.{Walk, size-of, step, instr-walk, walk, end-calls, block-calls, whole-walk, block-of}
+use Rattle.jit_arm64.specs.Fence.{fence, limit-at}
 use Rattle.jit_arm64.proofs.Emitting.{words-append}
 use Rattle.translation.specs.Demand3.{slot, place, Entry, Ends, Demand3}
 use Rattle.translation.proofs.Registers.{tab, tab-getD, getD-tab}
 use Rattle.translation.proofs.Calls.{Model, model, call-step, calls-run, scratch, fits, all-fit, all-keep, AllIn, Kept, calls-kept, real, Goes, calls-go}
 use Rattle.translation.proofs.Instrs.{run-append, fit-append, in-append}
+use Rattle.translation.proofs.Fences.{helped-most, whole-cut}
 use Rattle.translation.proofs.Blocks.{next-calls, walk-calls, Walks, walk-walks}
 
 -- ---- words and bytes
@@ -48,9 +49,9 @@ straight-words (w ∷ ws) vs s t g h = (straight-lt w s (g .0) (g .1), straight-
 
 -- ---- the end of a block
 
-ending-is : (why : Stop) (pc n : ℕ) → by-helper why ≡ 0 → end-calls why pc n ≡ next-calls why pc ++ (mov-imm64 1 n ∷ emit ret ∷ [])
-unfolding end-calls by-helper next-calls
-ending-is Stop.Helper pc n t = absurd (omega (arith, t))
+ending-is : (why : Stop) (pc n : ℕ) → (why ≡ Stop.Helper → ⊥) → end-calls why pc n ≡ next-calls why pc ++ (mov-imm64 1 n ∷ emit ret ∷ [])
+unfolding end-calls next-calls
+ending-is Stop.Helper pc n t = absurd (t refl)
 ending-is Stop.Ended pc n t = refl
 ending-is Stop.Limit pc n t = refl
 ending-is Stop.Uncovered pc n t = refl
@@ -60,7 +61,7 @@ ending-is Stop.NotFetched pc n t = refl
 abbrev counted : Walk → List Call
 counted w = walk-calls w ++ (mov-imm64 1 (w .count) ∷ [])
 
-block-words : (o : ℕ) (w : Walk) → by-helper (w .stop) ≡ 0 → words o (block-calls w) ≡ words o (counted w) ++ (ret ∷ [])
+block-words : (o : ℕ) (w : Walk) → (w .stop ≡ Stop.Helper → ⊥) → words o (block-calls w) ≡ words o (counted w) ++ (ret ∷ [])
 unfolding words-in flatten
 block-words o w free =
     let tail = mov-imm64 1 (w .count) ∷ emit ret ∷ [] in
@@ -72,12 +73,6 @@ block-words o w free =
     ap (words o) e ∙ words-append o (counted w) (emit ret ∷ [])
 
 -- ---- the count is at most the limit
-
-helped-most : (f : EmitFlow) (cs : List Call) (n pc : ℕ) → helped f cs n pc .count ≤ suc n
-unfolding helped
-helped-most EmitFlow.Continue cs n pc = omega arith
-helped-most EmitFlow.Terminate cs n pc = omega arith
-helped-most EmitFlow.None cs n pc = omega arith
 
 step-most : (f : EmitFlow) (e helper : Emission) (m start n i k : ℕ) (rest : ℕ → ℕ → Walk) → ((j : ℕ) → rest (suc n) j .count ≤ suc n + k) → step f e helper m start n i rest .count ≤ n + suc k
 unfolding step
@@ -118,9 +113,9 @@ beyond : (a b base : ℕ) → a % 8 ≡ 0 → b % 8 ≡ 0 → (a ≡ b → ⊥) 
 beyond a b base ha hb ne l p q = omega arith
 
 module _ (h : Host) (pc limit : ℕ) (guest : List ℕ) (hb : Bytes guest) (hp : pc < 2 ^ 64) (he : pc % 2 ≡ 0)
-    (ho : h .«slot_offset» ≤ max-slot-offset) (h8 : h .«slot_offset» % 8 ≡ 0) (free : by-helper (whole-walk max-instrs h guest pc limit .stop) ≡ 0) where
+    (ho : h .«slot_offset» ≤ max-slot-offset) (h8 : h .«slot_offset» % 8 ≡ 0) (free : whole-walk max-instrs h guest pc (limit-at (fence max-instrs h guest pc limit) limit) .stop ≡ Stop.Helper → ⊥) where
   abbrev W : Walk
-  W = whole-walk max-instrs h guest pc limit
+  W = whole-walk max-instrs h guest pc (limit-at (fence max-instrs h guest pc limit) limit)
 
   abbrev ws : List ℕ
   ws = words (h .«slot_offset») (counted W)
@@ -156,17 +151,17 @@ module _ (h : Host) (pc limit : ℕ) (guest : List ℕ) (hb : Bytes guest) (hp :
     kept = record { base = λ t. refl; same = λ k q. refl; count = ε .guest; small = λ i. small i (ltb i 32) refl; regs = ε .small }
 
     does : Walks W v (Rv64.run (h .«ignore_ebreak») (Rv64.clamped limit) 0 guest (Rv64.hart x pc))
-    unfolding whole-walk
     does =
         let e : add pc 0 ≡ pc = omega arith in
-        rw e at (walk-walks r₀ pc h guest hb hp (min limit max-instrs) 0 0 v (rw e he) kept (ε .starts 0 (omega arith) ∙ ε .zero) free)
+        let q = whole-cut h guest pc limit max-instrs in
+        rw q (rw e at (walk-walks r₀ pc h guest hb hp (min limit max-instrs) 0 0 v (rw e he) kept (ε .starts 0 (omega arith) ∙ ε .zero) (rw q at free)))
 
     fit : T (all-fit true (counted W))
     fit = fit-append true (walk-calls W) (mov-imm64 1 (W .count) ∷ []) (does .fit) (unfold all-fit fits scratch in tt)
 
     few : W .count < 2 ^ 64
     unfolding whole-walk
-    few = omega (arith, walk-most h guest pc (min limit max-instrs) 0 0)
+    few = omega (arith, walk-most h guest pc (min (limit-at (fence max-instrs h guest pc limit) limit) max-instrs) 0 0)
 
     range : AllIn (counted W)
     range = in-append (walk-calls W) (mov-imm64 1 (W .count) ∷ []) (does .range) (few, tt)

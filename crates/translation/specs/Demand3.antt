@@ -7,11 +7,17 @@ use Prim.Native.Nat.{ℕ, _+_, _-_, _*_, _%_, _^_, _≤_, _<_}
 use lib.ListN.{length, getD}
 use Rattle.word.specs.Word.{wrap}
 use Rattle.le.specs.Le.{Bytes, load}
+use Rattle.translator.specs.declared.EndKind.{EndKind}
+use Rattle.translator.specs.Translate.{end-number}
 use Rattle.a64_run.specs.declared.run.End.{End}
 use Rattle.a64_exec.specs.Exec.{State, reg}
 use Rattle.a64_run.specs.Run as A64
 use Rattle.rv64_run.specs.declared.run.Ran as RV
 use Rattle.rv64_run.specs.Run as Rv64
+
+-- the number of the end kind of a block that no helper ends
+abbrev pub HelperFree : ℕ → Type 0
+HelperFree end = (end ≡ end-number EndKind.Plain) ⊎ (end ≡ end-number EndKind.Drop)
 
 -- slot n: the eight bytes at slot offset plus 8 n plus the X0 of entry, modulo 2 ^ 64
 abbrev pub slot : State → ℕ → ℕ → ℕ

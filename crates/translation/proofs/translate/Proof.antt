@@ -11,7 +11,7 @@ returns c =
     let s = c .before .before .before .before .before in
     let a = s .before .args in
     let r = c .before .before .translate .ensures in
-    (r, λ p q. translated (a .host) (a .pc) (a .limit) (a .guest .now) (a .output .now) (λ i. let k = s .shared-slice-known .given i in omega arith) (search needs) _ r p q)
+    (r, λ p. translated (a .host) (a .pc) (a .limit) (a .guest .now) (a .output .now) (λ i. let k = s .shared-slice-known .given i in omega arith) (search needs) _ r p)
 
 pub translate-spec : {M : Type 1} → statement M
 translate-spec = tie.close (tie.spec (λ c κs. search needs) (λ c. search needs) returns)
