@@ -61,11 +61,19 @@ extern "C" {
 /* The bytes of an index. */
 #define HILOFANUR_INDEX_BYTES 45056
 
+/* What ended a block. On HILOFANUR_DROP the guest may have changed its code: keep the block out of the index, and empty
+ * the index. */
+enum hilofanur_end_kind {
+    HILOFANUR_PLAIN = 1,  /* a jump or branch, the limit, or an instruction that is not covered or not fetched */
+    HILOFANUR_HELPER = 2, /* a helper instruction: the block calls the helper */
+    HILOFANUR_DROP = 3    /* FENCE.I, as the limit's last instruction too */
+};
+
 struct hilofanur_translate_answer {
     uint32_t refusal;
     uint32_t length; /* the block's bytes */
     uint32_t count;  /* its guest instructions */
-    uint32_t helper; /* 1 where a helper ended it, else 0 */
+    uint32_t end;    /* enum hilofanur_end_kind, 0 where refused */
 };
 
 /* Translate: the block that starts at pc, written at the front of output; the rest of output stays.
@@ -74,6 +82,9 @@ struct hilofanur_translate_answer {
  * ignore_ebreak: C.EBREAK does nothing. slot_offset: register n has its slot at X0 plus slot_offset plus 8n.
  * memory_helper, helper32, helper16: the addresses that the block calls for loads and stores of 32 bits, for other
  * helper instructions of 32 bits, and for those of 16 bits. Refusals 1 to 6.
+ *
+ * FENCE.I, whatever its fields beside opcode and funct3, ends the block: it is counted, and the next PC is the one
+ * behind it. FENCE goes on.
  */
 struct hilofanur_translate_answer hilofanur_translate(
     const uint8_t *guest, size_t guest_length, uint64_t pc, uint32_t limit, bool ignore_ebreak, uint64_t slot_offset,
@@ -95,8 +106,9 @@ struct hilofanur_rv64_run_answer {
     uint64_t next_pc; /* the PC after them */
 };
 
-/* RV64 run: does the guest's block on the registers, as the ISA says. It stops where translation would, and before a
- * helper instruction. registers: HILOFANUR_REGISTERS bytes, each register little-endian. Refusals 2 to 5 and 9.
+/* RV64 run: does the guest's block on the registers, as the ISA says. It stops where translation would, behind FENCE.I
+ * too, which is counted, and before a helper instruction. registers: HILOFANUR_REGISTERS bytes, each register
+ * little-endian. Refusals 2 to 5 and 9.
  */
 struct hilofanur_rv64_run_answer hilofanur_rv64_run(
     const uint8_t *guest, size_t guest_length, uint64_t pc, uint32_t limit, bool ignore_ebreak, uint8_t *registers);
@@ -149,6 +161,9 @@ struct hilofanur_list_answer hilofanur_list(
  * always with the same store, of the same length, which nothing but these calls changes. Then a lookup answers the block
  * placed last under its key, unless that was dropped or the index emptied since, and the store holds that block's code.
  * Whatever bytes the index holds, a call ends and touches no byte beyond those lent.
+ *
+ * A block that ends as HILOFANUR_DROP is run from elsewhere and not placed: so it is translated each time the guest comes to
+ * it, and each time the caller empties the index. Then no block from before the guest's FENCE.I is found behind it.
  */
 
 /* Empties the index: no key has a block. */

@@ -16,8 +16,8 @@ pub struct TranslateAnswer {
     pub length: u32,
     /// The guest instructions in it.
     pub count: u32,
-    /// 1 where a helper ended it.
-    pub helper: u32,
+    /// What ended it: [`crate::EndKind::number`], 0 where refused.
+    pub end: u32,
 }
 
 /// What `hilofanur_place` answers.

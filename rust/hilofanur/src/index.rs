@@ -28,6 +28,9 @@ pub struct Found {
 /// An index has one store, of one length, which nothing but [`Index::place`] changes. Then a lookup answers the block placed
 /// last under its key, unless that was dropped or the index emptied since, and the store holds that block's code.
 ///
+/// A block that ends as [`crate::EndKind::Drop`] is run from elsewhere and not placed: so it is translated each time the guest
+/// comes to it, and each time the index is emptied. Then no block from before the guest's FENCE.I is found behind it.
+///
 /// ```
 /// use hilofanur::{Found, Index, Key, Refusal};
 ///

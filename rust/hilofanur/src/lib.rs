@@ -5,14 +5,14 @@
 //!
 //! ```
 //! use hilofanur::{a64_run, list, place, rv64_run, translate};
-//! use hilofanur::{A64State, End, Guest, Host, Refusal, Registers};
+//! use hilofanur::{A64State, End, EndKind, Guest, Host, Refusal, Registers};
 //!
 //! // c.li x10, -1 at 0x1000
 //! let guest = Guest { bytes: &[0x7d, 0x55], pc: 0x1000, limit: 64, ignore_ebreak: false };
 //! let host = Host { slot_offset: 0, memory_helper: 0x10000, helper32: 0x20000, helper16: 0x30000 };
 //! let mut output = [0; hilofanur::LONGEST_BLOCK];
 //! let block = translate(&guest, &host, &mut output)?;
-//! assert_eq!((block.length, block.count, block.helper), (32, 1, false));
+//! assert_eq!((block.length, block.count, block.end), (32, 1, EndKind::Plain));
 //!
 //! let mut store = vec![0; 4096];
 //! let placed = place(&mut store, 0, &output[..block.length])?;
@@ -61,12 +61,13 @@
 
 pub mod boundary;
 mod index;
+mod numbered;
 mod refusal;
 mod state;
 
 pub use index::{Found, Index, Key};
 pub use refusal::{ListRefused, Refusal};
-pub use state::{A64State, End, Registers};
+pub use state::{A64State, End, EndKind, Registers};
 
 /// The bytes of the longest block: 1,862 words.
 pub const LONGEST_BLOCK: usize = 4 * 1_862;
@@ -110,8 +111,8 @@ pub struct Block {
     pub length: usize,
     /// The guest instructions in it; a helper instruction counts.
     pub count: u32,
-    /// A helper instruction ended it.
-    pub helper: bool,
+    /// What ended it.
+    pub end: EndKind,
 }
 
 /// Where code was placed.
@@ -143,12 +144,16 @@ pub struct A64Run {
 
 /// Translate: writes the block at the front of `output`, whose other bytes stay.
 ///
+/// FENCE.I, whatever its fields beside opcode and funct3, ends the block: it is counted, and the next PC is the one behind
+/// it. FENCE goes on.
+///
 /// # Errors
 /// Refusals 1 to 6.
 pub fn translate(guest: &Guest, host: &Host, output: &mut [u8]) -> Result<Block, Refusal> {
     let answer = boundary::translate(guest, host, output);
     accepted(answer.refusal)?;
-    Ok(Block { length: answer.length as usize, count: answer.count, helper: answer.helper != 0 })
+    let end = EndKind::from_number(answer.end).expect("the library ends a block as 1 to 3");
+    Ok(Block { length: answer.length as usize, count: answer.count, end })
 }
 
 /// Place: copies `code` into `store` at `used`, rounded up to a multiple of 4; other bytes stay.
@@ -161,7 +166,8 @@ pub fn place(store: &mut [u8], used: usize, code: &[u8]) -> Result<Placed, Refus
     Ok(Placed { start: answer.start as usize, used: answer.used as usize })
 }
 
-/// RV64 run: does the guest's block on `registers`, as the ISA says, up to a helper instruction.
+/// RV64 run: does the guest's block on `registers`, as the ISA says. It stops where translation would, behind
+/// FENCE.I too, which is counted, and before a helper instruction.
 ///
 /// # Errors
 /// Refusals 2 to 5 and 9.

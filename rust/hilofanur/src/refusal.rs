@@ -1,5 +1,6 @@
 //! The refusals of documents 01 and 02.
 
+use crate::numbered::numbered;
 use std::error::Error;
 use std::fmt;
 
@@ -51,37 +52,27 @@ pub enum Refusal {
 
 use Refusal::*;
 
+numbered!(
+    Refusal:
+    SlotOffset,
+    LimitZero,
+    OddPc,
+    NotFetched,
+    NotCovered,
+    OutputShort,
+    UsedExceedsStore,
+    CodeExceedsStore,
+    RegisterZero,
+    BlockLength,
+    MemoryExceedsTop,
+    ListingLength,
+    OutsideForms,
+    ListingShort,
+    CodeLength,
+    NoBlock,
+);
+
 impl Refusal {
-    /// Every refusal, by number.
-    pub const ALL: [Refusal; 16] = [
-        SlotOffset,
-        LimitZero,
-        OddPc,
-        NotFetched,
-        NotCovered,
-        OutputShort,
-        UsedExceedsStore,
-        CodeExceedsStore,
-        RegisterZero,
-        BlockLength,
-        MemoryExceedsTop,
-        ListingLength,
-        OutsideForms,
-        ListingShort,
-        CodeLength,
-        NoBlock,
-    ];
-
-    /// Its number, 1 to 16.
-    pub fn number(self) -> u32 {
-        self as u32
-    }
-
-    /// The refusal with this number.
-    pub fn from_number(number: u32) -> Option<Refusal> {
-        Refusal::ALL.into_iter().find(|refusal| refusal.number() == number)
-    }
-
     /// What the number means, in the documents' words.
     pub fn meaning(self) -> &'static str {
         match self {

@@ -1,4 +1,6 @@
-//! The guest's registers, the A64 state, the ends of an A64 run.
+//! The guest's registers, the A64 state, the ends of a block and of an A64 run.
+
+use crate::numbered::numbered;
 
 /// The 32 registers of an RV64 hart. Register 0 has to be zero.
 ///
@@ -68,6 +70,32 @@ fn numbers<const N: usize>(bytes: &[u8]) -> [u64; N] {
     std::array::from_fn(|n| u64::from_le_bytes(eights[n]))
 }
 
+/// What ended a block.
+///
+/// ```
+/// use hilofanur::{translate, EndKind, Guest, Host, Refusal};
+/// // fence.i, c.nop
+/// let bytes = [0x0f, 0x10, 0, 0, 1, 0];
+/// let guest = Guest { bytes: &bytes, pc: 0x1000, limit: 64, ignore_ebreak: false };
+/// let host = Host { slot_offset: 0, memory_helper: 0x10000, helper32: 0x20000, helper16: 0x30000 };
+/// let block = translate(&guest, &host, &mut [0; 64])?;
+/// assert_eq!((block.count, block.end), (1, EndKind::Drop));
+/// assert_eq!(EndKind::from_number(3), Some(EndKind::Drop));
+/// # Ok::<(), Refusal>(())
+/// ```
+#[derive(Clone, Copy, Debug, PartialEq, Eq, Hash)]
+pub enum EndKind {
+    /// A jump or branch, the limit, or an instruction that is not covered or not fetched.
+    Plain = 1,
+    /// A helper instruction: the block calls the helper for it.
+    Helper = 2,
+    /// FENCE.I, as the limit's last instruction too: the guest may have changed its code. A dispatcher keeps the block out of its
+    /// index and empties that.
+    Drop = 3,
+}
+
+numbered!(EndKind: Plain, Helper, Drop);
+
 /// How an A64 run ended.
 #[derive(Clone, Copy, Debug, PartialEq, Eq, Hash)]
 pub enum End {
@@ -85,19 +113,4 @@ pub enum End {
     Called = 6,
 }
 
-use End::*;
-
-impl End {
-    /// Every end, by number.
-    pub const ALL: [End; 6] = [OffTheEnd, Spent, Unreadable, Fault, Returned, Called];
-
-    /// The number at the C boundary, 1 to 6.
-    pub fn number(self) -> u32 {
-        self as u32
-    }
-
-    /// The end with this number.
-    pub fn from_number(number: u32) -> Option<End> {
-        End::ALL.into_iter().find(|end| end.number() == number)
-    }
-}
+numbered!(End: OffTheEnd, Spent, Unreadable, Fault, Returned, Called);

@@ -1,4 +1,4 @@
-//! The example `dispatcher`, run on the guest program beside it and on short raw binaries; its modules' own tests.
+//! The example `dispatcher`, run on the guest programs beside it and on short raw binaries; its modules' own tests.
 
 #[allow(dead_code)]
 #[path = "../examples/dispatcher/main.rs"]
@@ -8,7 +8,9 @@ use hilofanur::Refusal;
 use std::path::{Path, PathBuf};
 use std::process::{Command, Output};
 
-const OUTPUT: &str = include_str!("../examples/centroid/output.txt");
+const CENTROID: &str = include_str!("../examples/centroid/output.txt");
+const PATCH: &str = concat!(env!("CARGO_MANIFEST_DIR"), "/examples/patch/patch");
+const PATCHED: &str = include_str!("../examples/patch/output.txt");
 
 fn dispatcher(arguments: &[&str]) -> Output {
     let deps = std::env::current_exe().unwrap();
@@ -35,11 +37,11 @@ fn numbers(lines: &[String], start: &str) -> Vec<u64> {
     digits.filter_map(|digits| digits.parse().ok()).collect()
 }
 
-/// The guest program: the same text as under qemu-riscv64, and no difference.
-fn centroid(arguments: &[&str]) -> Vec<String> {
+/// A guest program: the same text as under qemu-riscv64, and no difference.
+fn as_recorded(arguments: &[&str], recorded: &str) -> Vec<String> {
     let output = dispatcher(arguments);
     let lines = lines(&output);
-    assert_eq!(starting(&lines, "guest: "), OUTPUT.lines().collect::<Vec<_>>());
+    assert_eq!(starting(&lines, "guest: "), recorded.lines().collect::<Vec<_>>());
     assert_eq!(starting(&lines, "differences: "), ["0"]);
     assert_eq!(lines.last().unwrap(), "exit status of the guest: 0");
     assert!(output.status.success());
@@ -53,12 +55,13 @@ const LONGEST: usize = 320;
 /// the more often, and what is run stays the same.
 #[test]
 fn stores() {
-    let whole = centroid(&[]);
+    let whole = as_recorded(&[], CENTROID);
     let blocks = numbers(&whole, "blocks: ")[0];
     let run = numbers(&whole, "run: ");
     assert_eq!(numbers(&whole, "index: "), [blocks, run[0] - blocks, 0]);
     for (store, least) in [(8_192, 10), (1_024, 1_000), (LONGEST, 5_000)] {
-        let lines = centroid(&["--store", &store.to_string()]);
+        let lines = as_recorded(&["--store", &store.to_string()], CENTROID);
+        assert_eq!(numbers(&lines, "fences: "), [0, 0]);
         assert_eq!(numbers(&lines, "run: "), run);
         assert_eq!(numbers(&lines, "stops: "), numbers(&whole, "stops: "));
         let [placed, found, dropped] = numbers(&lines, "index: ")[..] else { panic!("{lines:?}") };
@@ -70,16 +73,66 @@ fn stores() {
     }
 }
 
-/// A store that is shorter than a block, and arguments that are no store.
+/// Bytes of the longest block of the program that patches itself, which is at 101de.
+const LONGEST_PATCHED: usize = 244;
+
+/// The program that patches its loop: each FENCE.I empties the index, and the new loop is run; in small stores too.
 #[test]
-fn stores_that_do_not_do() {
+fn patched() {
+    let fences = PATCHED.lines().count() as u64;
+    let run = numbers(&as_recorded(&[PATCH], PATCHED), "run: ");
+    for store in [1 << 20, 1_024, LONGEST_PATCHED] {
+        let lines = as_recorded(&["--store", &store.to_string(), PATCH], PATCHED);
+        assert_eq!(numbers(&lines, "run: "), run);
+        let [placed, found, dropped] = numbers(&lines, "index: ")[..] else { panic!("{lines:?}") };
+        let [fenced, emptied] = numbers(&lines, "fences: ")[..] else { panic!("{lines:?}") };
+        assert_eq!(fenced, fences);
+        assert_eq!(placed + fenced, numbers(&lines, "blocks: ")[0], "{store}");
+        assert_eq!(placed + found + fenced, run[0], "{store}");
+        // Each emptying finds a block, and behind the last one some are left.
+        assert!(emptied >= fences && dropped + emptied < placed, "{store}: {emptied} emptied");
+        assert_eq!(dropped == 0, store == 1 << 20, "{store}: {dropped} dropped");
+    }
+}
+
+/// Where the index is kept, the old loop is run, and the instruction behind the first FENCE.I; both runs differ.
+#[test]
+fn kept() {
+    let area = |gain: u64| 64_755 * gain;
+    let recorded = |gain: u64| {
+        let (before, after) = (area(gain - 1), area(gain));
+        format!("calibration {}, gain {gain}: area {before} before, {after} after", gain - 1)
+    };
+    let old = |gain: u64| {
+        let area = area(1);
+        format!("calibration 1, gain {gain}: area {area} before, {area} after")
+    };
+    let all = |line: &dyn Fn(u64) -> String| (2..=6).map(line).collect::<Vec<_>>();
+    assert_eq!(PATCHED.lines().collect::<Vec<_>>(), all(&recorded));
+    let output = dispatcher(&["--keep", PATCH]);
+    let lines = lines(&output);
+    assert_eq!(starting(&lines, "guest: "), all(&old));
+    assert_eq!(numbers(&lines, "fences: "), [5, 0]);
+    let differences = starting(&lines, "  DIFFERENCE ");
+    assert_eq!(numbers(&lines, "differences: "), [differences.len() as u64]);
+    // Each pass of the old loop, five times behind a patch and four times before the next, and the number four times.
+    assert_eq!(differences.len(), 16 * 9 + 4);
+    assert_eq!(lines.last().unwrap(), "exit status of the guest: 5");
+    assert_eq!(output.status.code(), Some(1));
+}
+
+/// A store that is shorter than a block, and arguments that are no store or no option.
+#[test]
+fn arguments_that_do_not_do() {
     let refused = |at| {
         let text = Refusal::CodeLength.to_string();
         format!("dispatcher: place at {at}: {text}\n")
     };
-    let cases: [(&[&str], &str); 5] = [
+    let cases: [(&[&str], &str); 7] = [
         (&["--store", "316"], &refused("10252")),
         (&["--store", "0"], &refused("100e8")),
+        (&["--store", "240", PATCH], &refused("101de")),
+        (&["--keep", "--stores", "316"], "dispatcher: --stores is no option\n"),
         (&["--store"], "dispatcher: --store wants a number of bytes\n"),
         (&["--store", "1k"], "dispatcher: 1k is no number of bytes up to 268435456\n"),
         (
@@ -128,6 +181,27 @@ fn listing() {
         "    0000000c d65f03c0 ret x30",
     ];
     assert_eq!(lines(&output)[1..6], expected);
+    assert!(output.status.success());
+}
+
+/// FENCE goes on; FENCE.I ends its block, which is listed, run and translated again when its turn comes.
+#[test]
+fn fences() {
+    // addi a0, x0, 2; fence; fence.i; addi a0, a0, -1; bne a0, x0, to fence; ecall
+    let code = [0x0020_0513, 0x0FF0_000F, 0x0000_100F, 0xFFF5_0513, 0xFE05_1AE3, 0x73];
+    let path = raw("fences", &code);
+    let output = dispatcher(&[path.to_str().unwrap()]);
+    let lines = lines(&output);
+    let blocks = [
+        "10000: 3 guest instructions, 8 words, the last FENCE.I",
+        "1000c: 2 guest instructions, 17 words",
+        "10004: 2 guest instructions, 4 words, the last FENCE.I",
+        "1000c: 2 guest instructions, 17 words",
+    ];
+    assert_eq!(starting(&lines, "  block at "), blocks);
+    assert_eq!(numbers(&lines, "index: "), [2, 0, 0]);
+    assert_eq!(numbers(&lines, "fences: "), [2, 1]);
+    assert_eq!(starting(&lines, "differences: "), ["0"]);
     assert!(output.status.success());
 }
 

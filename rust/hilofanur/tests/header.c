@@ -16,8 +16,30 @@ static struct hilofanur_translate_answer translate(uint64_t slot_offset, uint8_t
         guest, sizeof guest, 0x1000, 2, false, slot_offset, 0x10000, 0x20000, 0x30000, output, length);
 }
 
+_Static_assert(sizeof(struct hilofanur_translate_answer) == 4 * sizeof(uint32_t), "refusal, length, count, end");
 _Static_assert(sizeof(struct hilofanur_index_place_answer) == 2 * sizeof(uint64_t), "refusal, start");
 _Static_assert(sizeof(struct hilofanur_index_lookup_answer) == 4 * sizeof(uint64_t), "refusal, start, length, count");
+
+/* A block by its end, its bytes, count and next PC, as translation and the RV64 run have them. */
+static void end_kind(const uint8_t *guest, size_t length, enum hilofanur_end_kind kind)
+{
+    uint8_t output[HILOFANUR_LONGEST_BLOCK], registers[HILOFANUR_REGISTERS] = {0};
+    struct hilofanur_translate_answer block =
+        hilofanur_translate(guest, length, 0x1000, 3, false, 0, 0x10000, 0x20000, 0x30000, output, sizeof output);
+    struct hilofanur_rv64_run_answer ran = hilofanur_rv64_run(guest, length, 0x1000, 3, false, registers);
+    printf("end kind %d, %" PRIu32 " bytes, count %" PRIu32, block.end == kind, block.length, block.count);
+    printf(", ran %" PRIu32 " to %" PRIx64 "\n", ran.count, ran.next_pc);
+}
+
+/* C.NOP, then C.NOP, C.LW, or FENCE.I and C.NOP. */
+static void end_kinds(void)
+{
+    const uint8_t plain[] = {0x01, 0x00, 0x01, 0x00}, helper[] = {0x01, 0x00, 0x00, 0x40};
+    const uint8_t drop[] = {0x01, 0x00, 0x0f, 0x10, 0x00, 0x00, 0x01, 0x00};
+    end_kind(plain, sizeof plain, HILOFANUR_PLAIN);
+    end_kind(helper, sizeof helper, HILOFANUR_HELPER);
+    end_kind(drop, sizeof drop, HILOFANUR_DROP);
+}
 
 static void place(uint8_t *index, uint8_t *store, size_t length, uint64_t pc, const uint8_t *code, size_t code_length)
 {
@@ -90,5 +112,6 @@ int main(void)
     printf("refused %" PRIu64 " %d\n", listed.refusal, listed.offset == 0 || listed.offset == 4);
     printf("refused %" PRIu64 "\n", hilofanur_list(output, block.length, listing, length - 1).refusal);
     use_index();
+    end_kinds();
     return 0;
 }

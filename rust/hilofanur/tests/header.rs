@@ -34,6 +34,13 @@ index lookup 0 0 12 64
 index lookup 16 0 0 0
 ";
 
+/// Each end kind, the block's bytes and count; the run's count and next PC, which is before a helper instruction.
+const ENDED: &str = "\
+end kind 1, 12 bytes, count 2, ran 2 to 1004
+end kind 1, 68 bytes, count 2, ran 1 to 1002
+end kind 1, 12 bytes, count 2, ran 2 to 1006
+";
+
 #[test]
 fn from_c() {
     let here = Path::new(env!("CARGO_MANIFEST_DIR"));
@@ -49,7 +56,7 @@ fn from_c() {
     let ran = Command::new(&program).output().unwrap();
     let others = "refused 1\nrefused 6\nplaced 8 28\nran 1 1002 ff\nend 1 5 1002\n";
     let bytes = format!("index bytes {INDEX_BYTES}\n");
-    let expected = [PRINTED, others, LISTED, INDEXED, &bytes].concat();
+    let expected = [PRINTED, others, LISTED, INDEXED, &bytes, ENDED].concat();
     assert_eq!(String::from_utf8_lossy(&ran.stdout), expected);
     assert!(ran.status.success());
 }

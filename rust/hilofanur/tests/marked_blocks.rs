@@ -18,7 +18,7 @@ fn rows_hold() {
     let ask = |row: &Row, output: &mut [u8]| {
         let (guest, host) = question(row);
         let a = boundary::translate(&guest, &host, output);
-        [a.refusal, a.length, a.count, a.helper]
+        [a.refusal, a.length, a.count, a.end]
     };
     let rows = marked::rows();
     let wrong: Vec<String> =

@@ -6,8 +6,8 @@ use draw::words;
 use hilofanur::boundary::{self, A64RunAnswer, ListAnswer, PlaceAnswer};
 use hilofanur::boundary::{IndexLookupAnswer, IndexPlaceAnswer, Rv64RunAnswer, TranslateAnswer};
 use hilofanur::{a64_run, list, list_into, place, rv64_run, translate};
-use hilofanur::{A64State, End, Guest, Host, Index, Key, ListRefused, Placed, Refusal, Registers};
-use hilofanur::{Found, INDEX_BYTES};
+use hilofanur::{A64State, End, EndKind, Guest, Host, Index, Key};
+use hilofanur::{Found, ListRefused, Placed, Refusal, Registers, INDEX_BYTES};
 
 const HOST: Host =
     Host { slot_offset: 0, memory_helper: 0x10000, helper32: 0x20000, helper16: 0x30000 };
@@ -61,14 +61,14 @@ fn translate_accepts_the_edges() {
         let mut output = vec![FILL; room];
         let host = Host { slot_offset, ..HOST };
         let block = translate(&guest(NOP, 0x1000, u32::MAX), &host, &mut output).unwrap();
-        assert_eq!((block.length, block.count, block.helper), (12, 1, false));
+        assert_eq!((block.length, block.count, block.end), (12, 1, EndKind::Plain));
         assert_eq!(output[12..], vec![FILL; room - 12]);
     }
     let flagged = Guest { ignore_ebreak: true, ..guest(&[2, 0x90], 0x1000, 1) };
     assert_eq!(translate(&flagged, &HOST, &mut [0; 64]).unwrap().count, 1);
     // c.lw x8, 0(x8)
     let block = translate(&guest(&[0, 0x40], 0x1000, 1), &HOST, &mut [0; 256]).unwrap();
-    assert_eq!((block.count, block.helper), (1, true));
+    assert_eq!((block.count, block.end), (1, EndKind::Helper));
 }
 
 fn refuse_place(number: u64, size: usize, used: u64, length: usize) {
@@ -313,8 +313,13 @@ fn numbers_and_words() {
     for (end, number) in End::ALL.into_iter().zip(1..) {
         assert_eq!((end.number(), End::from_number(number)), (number, Some(end)));
     }
+    for (kind, number) in EndKind::ALL.into_iter().zip(1..) {
+        assert_eq!((kind.number(), EndKind::from_number(number)), (number, Some(kind)));
+    }
+    assert_eq!((Refusal::ALL.len(), End::ALL.len(), EndKind::ALL.len()), (16, 6, 3));
     assert_eq!((Refusal::from_number(0), Refusal::from_number(17)), (None, None));
     assert_eq!((End::from_number(0), End::from_number(7)), (None, None));
+    assert_eq!((EndKind::from_number(0), EndKind::from_number(4)), (None, None));
     let refused = list_into(&[0; 4], &mut []).unwrap_err();
     assert_eq!(refused.to_string(), "refused 13: a word outside the forms, at byte 0");
     let refused = list_into(&[0; 3], &mut []).unwrap_err();

@@ -1,7 +1,7 @@
 /* The centroids of three lock masses (polysiloxane ions) in fixed point, from sampled intensities. RV64IMC, no libc.
  *
  * Prints a line a peak; the exit status is the number of peaks whose centroid is off by more than 0.0005. */
-#include <stdint.h>
+#include "../guest.h"
 
 #define SAMPLES 32
 #define SCANS 16
@@ -59,33 +59,6 @@ static int64_t centroid(const struct peak *peak, const int32_t *heights, int64_t
     }
     *area += sum;
     return peak->first + moment * peak->step / sum;
-}
-
-static char *put(char *to, const char *text)
-{
-    while (*text)
-        *to++ = *text++;
-    return to;
-}
-
-static char *put_number(char *to, uint64_t number, int digits)
-{
-    char text[20];
-    int length = 0;
-    do {
-        text[length++] = '0' + number % 10;
-        number /= 10;
-    } while (number || length < digits);
-    while (length)
-        *to++ = text[--length];
-    return to;
-}
-
-static long call(long number, long a, long b, long c)
-{
-    register long a0 __asm__("a0") = a, a1 __asm__("a1") = b, a2 __asm__("a2") = c, a7 __asm__("a7") = number;
-    __asm__ volatile("ecall" : "+r"(a0) : "r"(a1), "r"(a2), "r"(a7) : "memory");
-    return a0;
 }
 
 /* Returns 1 if the centroid is off. */

@@ -1,12 +1,15 @@
 //! A dispatcher: runs an RV64 program block by block, as A64 words and beside them as the ISA says, and compares.
 //!
-//! `dispatcher [--store BYTES] [FILE [ENTRY [BASE]]]`: an ELF64 file, or a raw binary that goes to BASE; ENTRY and BASE in
-//! hexadecimal. Without a file it takes examples/centroid/centroid.
+//! `dispatcher [--keep] [--store BYTES] [FILE [ENTRY [BASE]]]`: an ELF64 file, or a raw binary that goes to BASE; ENTRY and
+//! BASE in hexadecimal. Without a file it takes examples/centroid/centroid.
 //!
 //! A block is translated, placed and then run by the library's A64 run, which stands in for the Arm processor. The first
 //! one's words are listed.
 //! The library's index keeps the blocks, in a store of BYTES, without it 1 MiB; where that is full, new blocks take the place
 //! of old ones, which are translated again when their turn comes.
+//! A guest that changes its code executes FENCE.I, which ends a block: that block is run but not placed, and the index is
+//! emptied. With --keep it is not emptied, only to show what comes of it: blocks of the old code are run, and the comparison,
+//! which reads the guest's code anew, tells of them.
 //! A block that ends in a helper instruction runs up to its call; the dispatcher compares the call's arguments,
 //! does the load or store itself and goes on at the next PC with a new block, so the words behind the call stay unused.
 //! ECALL ends a block too: `write` (64) is served, `exit` (93) ends the program, and so does EBREAK.
@@ -16,8 +19,8 @@ mod host;
 mod image;
 mod memory;
 
-use code::Code;
-use hilofanur::{list, Block, Guest, Refusal, Registers};
+use code::{Code, OnFence};
+use hilofanur::{list, Block, EndKind, Guest, Refusal, Registers};
 use host::{instruction, Done, HostSide};
 use image::Image;
 use memory::{Access, Memory};
@@ -69,14 +72,14 @@ enum Flow {
 }
 
 impl Dispatcher {
-    fn new(image: Image, store: usize) -> Dispatcher {
+    fn new(image: Image, code: Code) -> Dispatcher {
         let mut registers = Registers::default();
         registers.x[2] = (image.memory.base + image.memory.bytes.len() as u64 - 16) & !15;
         Dispatcher {
             memory: image.memory,
             registers,
             pc: image.entry,
-            code: Code::new(store),
+            code,
             host: HostSide::new(),
             counts: Counts::default(),
         }
@@ -88,12 +91,11 @@ impl Dispatcher {
             let bytes = self.memory.from(self.pc, WINDOW).to_vec();
             let guest = Guest { bytes: &bytes, pc: self.pc, limit: LIMIT, ignore_ebreak: false };
             match self.code.block(&guest) {
-                Ok((found, new)) => {
-                    let words = self.code.words(found);
-                    self.tell(new, words.0)?;
-                    let count = u32::from(found.count);
-                    let done = self.host.run(&guest, count, words, &self.registers)?;
-                    self.take(&guest, count, done)?;
+                Ok(ready) => {
+                    let words = self.code.words(&ready);
+                    self.tell(ready.new, words.0)?;
+                    let done = self.host.run(&guest, ready.count, words, &self.registers)?;
+                    self.take(&guest, ready.count, done)?;
                 }
                 Err(Refusal::NotCovered) => match self.system(instruction(&guest, self.pc))? {
                     Flow::Next => self.pc = self.pc.wrapping_add(4),
@@ -178,9 +180,10 @@ impl Dispatcher {
         let Counts { runs, instructions, words, returned, loads, stores, ecalls, differences } =
             self.counts;
         let called = loads + stores;
-        let Code { translated, placed, found, .. } = self.code;
+        let Code { translated, placed, found, fences, emptied, .. } = self.code;
         println!("blocks: {translated} translated into {} words", self.code.words);
         println!("index: {placed} placed, {found} found, {} dropped", self.code.dropped());
+        println!("fences: {fences}, which emptied the index of {emptied} blocks");
         println!("run: {runs} blocks, {instructions} guest instructions, {words} A64 words");
         println!(
             "stops: {returned} returned, {called} called ({loads} loads, {stores} stores), {ecalls} ecall"
@@ -191,7 +194,11 @@ impl Dispatcher {
 
 fn print_block(pc: u64, block: &Block) {
     let (count, words) = (block.count, block.length / 4);
-    let last = if block.helper { ", the last by a helper" } else { "" };
+    let last = match block.end {
+        EndKind::Plain => "",
+        EndKind::Helper => ", the last by a helper",
+        EndKind::Drop => ", the last FENCE.I",
+    };
     println!("  block at {pc:x}: {count} guest instructions, {words} words{last}");
 }
 
@@ -216,15 +223,20 @@ fn store_bytes(text: Option<&String>) -> Result<usize, String> {
 /// True if the program ended with status 0 and nothing differed.
 fn dispatch(arguments: &[String]) -> Result<bool, String> {
     let mut arguments = arguments.iter().peekable();
-    let store = match arguments.next_if(|text| *text == "--store") {
-        Some(_) => store_bytes(arguments.next())?,
-        None => STORE,
-    };
+    let (mut store, mut on_fence) = (STORE, OnFence::Empty);
+    while let Some(option) = arguments.next_if(|text| text.starts_with("--")) {
+        match option.as_str() {
+            "--store" => store = store_bytes(arguments.next())?,
+            "--keep" => on_fence = OnFence::Keep,
+            _ => return Err(format!("{option} is no option")),
+        }
+    }
     let path = arguments.next().map_or(CENTROID, String::as_str);
     let entry = arguments.next().map(|text| hexadecimal(text)).transpose()?;
     let base = arguments.next().map_or(Ok(RAW), |text| hexadecimal(text))?;
     let file = std::fs::read(path).map_err(|error| format!("{path}: {error}"))?;
-    let mut dispatcher = Dispatcher::new(Image::load(&file, entry, base)?, store);
+    let image = Image::load(&file, entry, base)?;
+    let mut dispatcher = Dispatcher::new(image, Code::new(store, on_fence));
     let name = Path::new(path).file_name().unwrap_or_default().to_string_lossy();
     println!("{name}, entry {:x}", dispatcher.pc);
     let ended = dispatcher.run();

@@ -47,10 +47,10 @@ impl Case {
             helper16: r.u64(),
         };
         let room = r.u32() as usize;
-        let (refusal, helper, count) = (r.u8().into(), r.u8().into(), r.u8().into());
+        let (refusal, end, count) = (r.u8().into(), r.u8().into(), r.u8().into());
         let length = 4 * u32::from(r.u16());
         let words = r.bytes(length as usize);
-        let answer = TranslateAnswer { refusal, length, count, helper };
+        let answer = TranslateAnswer { refusal, length, count, end };
         Case { guest, pc, limit, ignore_ebreak, host, room, answer, words }
     }
 
@@ -72,13 +72,17 @@ fn translations() {
     let number = r.header(b"A64BLOCK");
     r.u64();
     assert!(number >= 4_900);
+    let mut met = [0; 4];
     for _ in 0..number {
         let case = Case::read(&mut r);
+        met[case.answer.end as usize] += 1;
         for edge in EDGES {
             case.replay(edge);
         }
     }
     assert!(r.0.is_empty());
+    // Refused, and of each end kind.
+    assert!(met.into_iter().all(|number| number >= 100), "{met:?}");
 }
 
 #[test]
