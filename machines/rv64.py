@@ -28,6 +28,10 @@ class Instr:
     def jumps(self):
         return self.offset is not None or self.base is not None
 
+    def ends(self):
+        """Whether a block ends with it: by document 01's rule 5, or by document 02's No. 3."""
+        return self.jumps() or self.kind == "fence.i"
+
 
 @dataclass
 class Case:
@@ -40,10 +44,10 @@ class Case:
 
     def __post_init__(self):
         self.inputs = {r: v for r, v in self.inputs.items() if r != 0 and v != default(r)}
-        self.run = self.instrs[:self.limit]
+        ends = (number for number, instr in enumerate(self.instrs, 1) if instr.ends())
+        self.run = self.instrs[:min(self.limit, next(ends, self.limit))]
         self.code = b"".join(i.code for i in self.instrs) + self.tail
         assert len(self.code) <= 64 and 1 <= self.limit <= 255
-        assert not any(i.jumps() for i in self.run[:-1])
 
 
 def word(kind, value, **rest):
@@ -461,8 +465,12 @@ ENDS = [bytes.fromhex(h) for h in (
     "1300", "130005", "13", "01")]
 
 
+def few_registers():
+    return rng.distinct([1, 2, 5, 17, 31], 2) + rng.distinct(MARKED, 3)
+
+
 def block(longest):
-    few = rng.distinct([1, 2, 5, 17, 31], 2) + rng.distinct(MARKED, 3)
+    few = few_registers()
     instrs = [straight(few) for _ in range(rng.between(1, longest - 1))]
     tail = b""
     pc = anywhere()
@@ -487,10 +495,25 @@ def block(longest):
         cases.append(Case(instrs, values(few), limit, pc, tail))
 
 
+def fenced():
+    """FENCE.I with any fields first or behind others, FENCE beside it, and behind it code that is not run."""
+    few = few_registers()
+    instrs = [straight(few) for _ in range(rng.below(5))]
+    if rng.below(3) == 0:
+        instrs.append(fence(rng.below(4096), rng.below(32), rng.below(32)))
+    instrs.append(fence_i(rng.below(4096), rng.below(32), rng.below(32)))
+    limit = len(instrs) + rng.pick((-1, 0, 0, 1, 2, 200))
+    instrs += [straight(few) for _ in range(rng.between(1, 3))]
+    instrs.append(rng.pick((fence_i(0, 0, 0), straight(few), jump(few))))
+    cases.append(Case(instrs, values(few), max(limit, 1), anywhere()))
+
+
 while len(cases) < 20_300:
     block(8)
 while len(cases) < 20_500:
     block(24)
+while len(cases) < 20_800:
+    fenced()
 
 
 # The machine runs them.

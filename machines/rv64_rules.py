@@ -1,6 +1,6 @@
 """Writes the cases of RV64 run that no machine was asked for. Use: rv64_rules.py RECORD
 
-Each outcome is worked out by hand from document 01 and the ISA, and the comment says how.
+Each outcome is worked out by hand from documents 01 and 02 and the ISA, and the comment says how.
 Instructions are literals, so that nothing here leans on another encoder.
 """
 
@@ -19,6 +19,7 @@ NOP = 0x0000_0013
 EBREAK = 0x0010_0073
 LW_X0_X0 = 0x0000_2003
 FENCE, FENCE_I = 0x0FF0_000F, 0x0000_100F
+FENCE_FIELDS, FENCE_I_FIELDS = 0xFFFF_8F8F, 0xFFFF_9F8F  # every field other than funct3 set
 # X5 = PC + 0, 0x1000, -0x1000, 2^31 - 0x1000, -2^31
 AUIPC_0, AUIPC_1, AUIPC_BACK_1, AUIPC_MOST, AUIPC_LEAST = (
     0x0000_0297, 0x0000_1297, 0xFFFF_F297, 0x7FFF_F297, 0x8000_0297)
@@ -166,6 +167,48 @@ for funct3 in range(1, 8):
     rule([JALR_X1_X5_BACK_1 + more], 0x1000, 0x2FFE, 1, x={5: 0x3000}, after={1: 0x1004})
     rule([C_ADDI_X10_1, JALR_X1_X5 + more, C_ADDI_X10_1], 0x1000, 0x3000, 2, x={5: 0x3000, 10: 7},
          after={1: 0x1006, 10: 8})
+
+# FENCE.I is counted and ends the block: the next PC is the one behind it, and what stands there is not done (document 02, No. 3).
+# Its other fields are ignored: rd, rs1, the immediate (source readings).
+for fence_i in (FENCE_I, 0x0000_1F8F, 0x000F_900F, 0xFFF0_100F, FENCE_I_FIELDS):
+    rule([fence_i], 0x1000, 0x1004, 1)
+    rule([fence_i, C_ADDI_X10_1], 0x1000, 0x1004, 1)
+    rule([C_ADDI_X10_1, fence_i, C_ADDI_X10_1], 0x1000, 0x1006, 2, x={10: 7}, after={10: 8})
+    rule([C_ADDI_X10_1, C_ADDI_X10_1, fence_i, C_ADDI_X10_1], 0x1000, 0x1008, 3, x={10: 7}, after={10: 9})
+    # The limit's last, and just beyond the limit.
+    rule([C_ADDI_X10_1, fence_i, C_ADDI_X10_1], 0x1000, 0x1006, 2, limit=2, x={10: 7}, after={10: 8})
+    rule([C_ADDI_X10_1, fence_i, C_ADDI_X10_1], 0x1000, 0x1002, 1, limit=1, x={10: 7}, after={10: 8})
+    rule([fence_i, C_ADDI_X10_1], 0x1000, 0x1004, 1, limit=1)
+# The first of two ends it; a jump behind it is not taken, and what ends a block elsewhere is not looked at.
+rule([FENCE_I, FENCE_I], 0x1000, 0x1004, 1)
+rule([FENCE_I, JAL_X1_8], 0x1000, 0x1004, 1)
+rule([C_NOP, FENCE_I, JALR_X1_X5], 0x1000, 0x1006, 2)
+rule([FENCE_I, LW_X0_X0], 0x1000, 0x1004, 1)
+rule([FENCE_I, EBREAK], 0x1000, 0x1004, 1)
+rule([FENCE_I], 0x1000, 0x1004, 1, rest=b"\x13\x00")
+# It is not reached behind a helper's instruction, one that is not covered, or a jump.
+rule([C_NOP, LW_X0_X0, FENCE_I], 0x1000, 0x1002, 1)
+rule([C_NOP, EBREAK, FENCE_I], 0x1000, 0x1002, 1)
+rule([JAL_X1_8, FENCE_I], 0x1000, 0x1008, 1, after={1: 0x1004})
+rule([LW_X0_X0, FENCE_I], 0x1000, 0, 0, refusal=5)
+# Without its second halfword it is not fetched.
+rule([C_NOP], 0x1000, 0x1002, 1, rest=b"\x0F\x10")
+rule([C_NOP], 0x1000, 0x1002, 1, rest=b"\x0F\x10\x00")
+rule([], 0x1000, 0, 0, rest=b"\x0F\x10", refusal=4)
+rule([], 0x1000, 0, 0, rest=b"\x0F\x10\x00", refusal=4)
+# Past the top of 64 bits as elsewhere.
+rule([FENCE_I, C_ADDI_X10_1], TOP - 4, 0, 1)
+rule([FENCE_I, C_ADDI_X10_1], TOP - 2, 2, 1)
+rule([C_NOP, FENCE_I, C_ADDI_X10_1], TOP - 2, 4, 2)
+# 24 instructions before it; the flag changes nothing.
+rule([C_NOP] * 24 + [FENCE_I, C_ADDI_X10_1], 0x1000, 0x1034, 25)
+rule([C_EBREAK, FENCE_I, C_ADDI_X10_1], 0x1000, 0x1006, 2, flag=1)
+# FENCE is no end, whatever its other fields.
+for fence in (FENCE, 0x0000_000F, 0x8330_000F, FENCE_FIELDS):
+    rule([fence, C_ADDI_X10_1], 0x1000, 0x1006, 2, x={10: 7}, after={10: 8})
+    rule([fence, C_ADDI_X10_1, fence, C_ADDI_X10_1], 0x1000, 0x100C, 4, x={10: 7}, after={10: 9})
+    rule([fence, FENCE_I, C_ADDI_X10_1], 0x1000, 0x1008, 2)
+    rule([FENCE_I, fence, C_ADDI_X10_1], 0x1000, 0x1004, 1)
 
 
 write(sys.argv[1], b"RV64RULE", records)

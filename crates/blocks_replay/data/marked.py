@@ -2,10 +2,12 @@
 """Writes marked.bin: the rows of document 01's "Marked blocks" in the format of blocks.bin (rust/oracle/README.md).
 
 Document 01 counts the words of the 64 DIV and does not list them: the 29 words of one DIV are those of emuko's Rust.
+No row has a helper's instruction or FENCE.I, so each block's end kind is plain.
 """
 import pathlib
 import struct
 
+PLAIN = 1
 HELPERS = 0x10000, 0x20000, 0x30000
 DIVISIONS = "B3 42 73 02" * 64
 ROW_1 = "D2820040 D2800021 D65F03C0"
@@ -20,7 +22,7 @@ def case(guest, limit, pc, slot_offset, room, refusal, count, words):
     guest = bytes.fromhex(guest)
     words = [int(word, 16) for word in words.split()]
     asked = struct.pack("<QIBQQQQI", pc, limit, 0, slot_offset, *HELPERS, room)
-    found = struct.pack("<BBBH", refusal, 0, count, len(words))
+    found = struct.pack("<BBBH", refusal, 0 if refusal else PLAIN, count, len(words))
     return struct.pack("<H", len(guest)) + guest + asked + found + struct.pack(f"<{len(words)}I", *words)
 
 

@@ -6,7 +6,7 @@ use draw::listing::plain_words;
 use draw::marked::LONG_PC;
 use draw::{Case, Random, LONGEST};
 use hilofanur::{boundary, LONGEST_LINE};
-use oracle::ask;
+use oracle::expected;
 use std::hint::black_box;
 use steppers::{list, list_fmt, ListAnswer};
 
@@ -39,7 +39,7 @@ fn translations(random: &mut Random, length: usize, number: usize) -> Vec<Vec<u8
     let (guests, mut output) = (Guests::default(), vec![0; LONGEST]);
     let mut translation = || {
         let case = Case { pc: LONG_PC, ..Case::new(&guests.plain_block(random, length), 64) };
-        let answer = ask(&case, &mut output);
+        let answer = expected(&case, &mut output);
         assert_eq!((answer.refusal, answer.count as usize), (0, length));
         output[..answer.length as usize].to_vec()
     };

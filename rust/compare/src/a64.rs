@@ -4,7 +4,7 @@ use crate::Compared;
 use draw::a64::{A64Case, A64Cases};
 use draw::{Random, LONGEST};
 use hilofanur::boundary;
-use oracle::ask;
+use oracle::expected;
 use steppers::{a64_run, A64Answer, A64State};
 
 pub struct A64 {
@@ -41,7 +41,7 @@ impl Compared for A64 {
 
     fn compare(&mut self, random: &mut Random) -> Result<usize, String> {
         let case = self.cases.case(random, |case| {
-            let answer = ask(case, &mut self.output);
+            let answer = expected(case, &mut self.output);
             self.output[..answer.length as usize].to_vec()
         });
         let A64Case { ref block, address, x, sp, nzcv, budget, base, .. } = case;

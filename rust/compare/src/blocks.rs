@@ -1,10 +1,11 @@
-//! Demand 3 on the library's own answers: a helper-free block run as A64 words against the RV64 run.
+//! Demand 3 on the library's own answers: a helper-free block, plain or drop, run as A64 words against the RV64 run.
 
 use crate::{question, Compared};
 use draw::guest::Guests;
 use draw::values::{registers, value, Pool};
 use draw::{Random, LONGEST};
-use hilofanur::{a64_run, rv64_run, translate, A64Run, A64State, End, Guest, Registers};
+use hilofanur::{a64_run, rv64_run, translate};
+use hilofanur::{A64Run, A64State, End, EndKind, Guest, Registers};
 
 /// The bytes of the 32 slots.
 const SLOTS: usize = 256;
@@ -76,22 +77,25 @@ fn run(
 
 impl Compared for Blocks {
     const NAME: &'static str = "demand 3";
-    const OUTCOMES: &'static [&'static str] = &["helper-free", "with a helper", "refused"];
+    const OUTCOMES: &'static [&'static str] = &["plain", "with a helper", "drop", "refused"];
 
     fn compare(&mut self, random: &mut Random) -> Result<usize, String> {
         let case = self.guests.case(random);
         let (guest, host) = question(&case);
         let block = match translate(&guest, &host, &mut self.output) {
-            Err(_) => return Ok(2),
-            Ok(block) if block.helper => return Ok(1),
+            Err(_) => return Ok(3),
             Ok(block) => block,
         };
+        let outcome = block.end as usize - 1;
+        if block.end == EndKind::Helper {
+            return Ok(outcome);
+        }
         let registers = Registers { x: registers(|| value(random)) };
         let place = self.place(random, &registers);
         let words = (&self.output[..block.length], block.count);
         let wrong = run(random, (&guest, host.slot_offset), words, registers, place);
         if wrong.is_empty() {
-            return Ok(0);
+            return Ok(outcome);
         }
         Err(format!("{case:x?} from {registers:x?}: not so: {wrong:?}"))
     }

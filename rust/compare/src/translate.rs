@@ -1,15 +1,16 @@
-//! Translate against `compile_native_block`: refusals, words, count, helper mark, and the output after the block.
+//! Translate against `compile_native_block`, with its count as the limit where FENCE.I ends a block: refusals, words, count,
+//! end kind, and the output after the block.
 
 use crate::{question, Compared};
 use draw::case::enough;
 use draw::guest::Guests;
 use draw::{Case, Random, LONGEST};
 use hilofanur::boundary;
-use oracle::{ask, Answer};
+use oracle::{expected, Answer};
 
 pub struct Translate {
     guests: Guests,
-    /// The Rust's block.
+    /// The block that the Rust has.
     block: Vec<u8>,
     /// What the library's output holds before each call.
     fill: Vec<u8>,
@@ -33,7 +34,7 @@ impl Translate {
             && self.output[length..] == self.fill[length..];
         let written = if same { length } else { self.output.len() };
         self.output[..written].copy_from_slice(&self.fill[..written]);
-        (Answer { refusal: a.refusal, length: a.length, count: a.count, helper: a.helper }, same)
+        (Answer { refusal: a.refusal, length: a.length, count: a.count, end: a.end }, same)
     }
 }
 
@@ -49,31 +50,35 @@ fn room(random: &mut Random, length: usize) -> usize {
 impl Compared for Translate {
     const NAME: &'static str = "translate";
     const OUTCOMES: &'static [&'static str] = &[
-        "accepted",
+        "plain",
+        "with a helper",
+        "drop",
         "refused 1",
         "refused 2",
         "refused 3",
         "refused 4",
         "refused 5",
         "refused 6",
-        "accepted with a helper",
     ];
 
     fn compare(&mut self, random: &mut Random) -> Result<usize, String> {
         let mut case = self.guests.case(random);
-        let whole = ask(&case, &mut self.block);
+        let whole = expected(&case, &mut self.block);
         case.room = room(random, whole.length as usize);
-        let expected = if case.room < whole.length as usize {
+        let must = if case.room < whole.length as usize {
             Answer { refusal: 6, ..Answer::default() }
         } else {
             whole
         };
-        let (answer, same) = self.ask(&case, expected.length as usize);
-        if answer != expected || !same {
+        let (answer, same) = self.ask(&case, must.length as usize);
+        if answer != must || !same {
             return Err(format!(
-                "{case:x?}: {answer:?}, the Rust {expected:?}, output the same: {same}"
+                "{case:x?}: {answer:?}, the Rust {must:?}, output the same: {same}"
             ));
         }
-        Ok(if expected.helper == 1 { 7 } else { expected.refusal as usize })
+        Ok(match must.refusal {
+            0 => must.end as usize - 1,
+            refusal => refusal as usize + 2,
+        })
     }
 }

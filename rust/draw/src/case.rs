@@ -3,6 +3,11 @@
 use crate::guest::Guests;
 use crate::{marked, Random, LONGEST};
 
+/// Document 02's end kinds of an accepted block, No. 3.
+pub const PLAIN: u32 = 1;
+pub const HELPER: u32 = 2;
+pub const DROP: u32 = 3;
+
 /// A question to Translate.
 #[derive(Clone, Debug)]
 pub struct Case {
@@ -129,4 +134,59 @@ fn draw_helpers(random: &mut Random) -> [u64; 3] {
         let kept = [0, 16, 32, 48].map(|shift| ((random.next() & 1) * 0xffff) << shift);
         random.next() & kept.iter().sum::<u64>()
     })
+}
+
+#[cfg(test)]
+mod tests {
+    use super::*;
+    use crate::class::{first, Class};
+
+    /// The classes of a question's instructions up to the first that is not Next, one beyond the limit at most; whether
+    /// FENCE.I stands right behind the last of them.
+    fn walk(case: &Case) -> (Vec<Class>, bool) {
+        let (mut at, mut classes) = (0, Vec::new());
+        while let Some((class, size)) = first(&case.guest[at..], case.ignore_ebreak) {
+            classes.push(class);
+            at += size;
+            if class != Class::Next || classes.len() > case.limit.min(64) as usize {
+                break;
+            }
+        }
+        let behind =
+            first(&case.guest[at..], false).is_some_and(|(class, _)| class == Class::FenceI);
+        (classes, behind)
+    }
+
+    /// Of the blocks that refusals 2, 4 and 5 leave, FENCE.I ends about one in eight, and it stands where the list has it.
+    #[test]
+    fn fence_i_in_every_place() {
+        let (guests, mut random) = (Guests::default(), Random(1));
+        let (mut blocks, mut dropped) = (0, 0);
+        let mut places = [0; 8];
+        for _ in 0..40_000 {
+            let case = guests.case(&mut random);
+            let (classes, behind) = walk(&case);
+            let limit = case.limit.min(64) as usize;
+            if limit == 0 || matches!(classes.first(), None | Some(Class::Uncovered)) {
+                continue;
+            }
+            blocks += 1;
+            let (number, last) = (classes.len(), classes[classes.len() - 1]);
+            let fence_i = last == Class::FenceI;
+            dropped += (fence_i && number <= limit) as usize;
+            let met = [
+                fence_i && number == 1 && limit > 1,
+                fence_i && number > 1 && number < limit,
+                fence_i && number == limit,
+                fence_i && number == limit + 1,
+                fence_i && number == 63 && limit > 63,
+                fence_i && number == 64,
+                behind && last == Class::Helper,
+                behind && last == Class::Uncovered,
+            ];
+            places.iter_mut().zip(met).for_each(|(place, met)| *place += met as usize);
+        }
+        assert!(blocks / 10 < dropped && dropped < blocks / 6, "{dropped} of {blocks}");
+        assert!(places.iter().all(|&number| number >= 20), "{places:?}");
+    }
 }

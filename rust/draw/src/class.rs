@@ -1,11 +1,13 @@
-//! What an instruction is to a block, by document 01's rules 2 to 4.
+//! What an instruction is to a block, by document 01's rules 2 to 4 and document 02's No. 3.
 
 #[derive(Clone, Copy, PartialEq, Eq, Debug)]
 pub enum Class {
     /// Inline, and the block goes on.
     Next,
-    /// Inline, and ends the block.
+    /// Inline, and ends the block: a jump or a branch.
     Ends,
+    /// FENCE.I: inline, and ends the block. The Rust's block goes on behind it.
+    FenceI,
     Helper,
     Uncovered,
 }
@@ -80,7 +82,8 @@ pub fn class32(instr: u32) -> Class {
             32 => matches!(funct3, 0 | 5),
             _ => false,
         }),
-        0x0f => inline(funct3 < 2),
+        0x0f if funct3 == 1 => Class::FenceI,
+        0x0f => inline(funct3 == 0),
         0x03 if funct3 != 7 => Class::Helper,
         0x23 if funct3 < 4 => Class::Helper,
         0x07 | 0x27 | 0x2f => Class::Helper,
@@ -104,9 +107,12 @@ mod tests {
         for form in forms::inline() {
             let met = classes(form);
             // C.EBREAK is inline only under the flag.
-            let inline = met.contains(&Class::Next) || met.contains(&Class::Ends);
-            assert!(inline || form.0 == 0x9002, "{form:x?}");
+            let inline =
+                [Class::Next, Class::Ends, Class::FenceI].map(|class| met.contains(&class));
+            assert!(inline.contains(&true) || form.0 == 0x9002, "{form:x?}");
             assert!(!met.contains(&Class::Helper), "{form:x?}");
+            let fence_i = met.iter().filter(|&&class| class == Class::FenceI).count();
+            assert_eq!(fence_i, if form == forms::FENCE_I { met.len() } else { 0 }, "{form:x?}");
         }
         for form in forms::helper() {
             assert!(classes(form).iter().all(|&class| class == Class::Helper), "{form:x?}");

@@ -3,6 +3,9 @@
 /// The values of the fixed bits, and which bits are fixed.
 pub type Form = (u32, u32);
 
+pub const FENCE: Form = (0x000f, 0x707f);
+pub const FENCE_I: Form = (0x100f, 0x707f);
+
 /// Rule 2's 32-bit forms.
 pub fn inline32() -> Vec<Form> {
     let mut forms = vec![(0x37, 0x7f), (0x17, 0x7f), (0x6f, 0x7f), (0x67, 0x707f), (0x67, 0x7f)];
@@ -24,7 +27,7 @@ pub fn inline32() -> Vec<Form> {
     forms.extend(funct7(0x3b, 0, &[0, 1, 5]));
     forms.extend(funct7(0x3b, 1, &[0, 4, 5, 6, 7]));
     forms.extend(funct7(0x3b, 32, &[0, 5]));
-    forms.extend(funct3(0x0f, &[0, 1]));
+    forms.extend([FENCE, FENCE_I]);
     forms
 }
 

@@ -1,7 +1,7 @@
 //! Guest code: instructions of the forms, and streams of them.
 
 use crate::class::{first, Class};
-use crate::forms::{self, encode, Form};
+use crate::forms::{self, encode, Form, FENCE, FENCE_I, LEFTOVER};
 use crate::Random;
 
 const DIV: Form = (0x0200_4033, 0xFE00_707F);
@@ -25,25 +25,25 @@ pub fn instruction(random: &mut Random, form: Form) -> Vec<u8> {
     bytes(encode(form, free))
 }
 
-/// Draws until an instruction is of the class.
-fn of_class(class: Class, mut draw: impl FnMut() -> Vec<u8>) -> Vec<u8> {
+/// Draws until an instruction is of one of the classes.
+fn of_class(classes: &[Class], mut draw: impl FnMut() -> Vec<u8>) -> Vec<u8> {
     loop {
         let instr = draw();
-        if first(&instr, false).is_some_and(|(found, _)| found == class) {
+        if first(&instr, false).is_some_and(|(found, _)| classes.contains(&found)) {
             return instr;
         }
     }
 }
 
-/// An instruction after which a block goes on.
+/// An instruction after which the Rust's block goes on: FENCE.I is one.
 pub fn next_instruction(random: &mut Random, forms: &[Form]) -> Vec<u8> {
-    of_class(Class::Next, || {
+    of_class(&[Class::Next, Class::FenceI], || {
         let form = random.pick(forms);
         instruction(random, form)
     })
 }
 
-/// `many` instructions after which a block goes on, then one of any kind.
+/// `many` instructions after which the Rust's block goes on, then one of any kind.
 pub fn stream(random: &mut Random, many: usize, forms: &[Form], last: &[Form]) -> Vec<u8> {
     let mut guest = Vec::with_capacity(4 * many + 4);
     for _ in 0..many {
@@ -67,10 +67,35 @@ impl Default for Guests {
 }
 
 impl Guests {
-    /// An instruction after which a block goes on; half the time one of those with the most words.
+    /// An instruction after which the Rust's block goes on; half the time one of those with the most words.
     fn repeated(&self, random: &mut Random) -> Vec<u8> {
         let forms = if random.below(2) == 0 { &[DIV, REM] } else { &self.inline[..] };
         next_instruction(random, forms)
+    }
+
+    /// Code around FENCE.I, which is one of the first instructions or about the 64th. Now and then another one, FENCE or
+    /// leftover words are beside it, or a helper's instruction ends the block before it.
+    fn fenced(&self, random: &mut Random) -> Vec<u8> {
+        let before = if random.below(6) == 0 { 61 + random.below(5) } else { random.below(4) };
+        let mut guest = Vec::new();
+        for _ in 0..before {
+            guest.extend(next_instruction(random, &self.inline));
+        }
+        let forms = match random.below(16) {
+            0 | 1 => vec![FENCE, FENCE_I],
+            2 | 3 => vec![FENCE_I, FENCE],
+            4 | 5 => vec![FENCE_I, FENCE_I],
+            6 | 7 => vec![FENCE_I, random.pick(&LEFTOVER)],
+            8 => vec![random.pick(&LEFTOVER), FENCE_I],
+            9 => vec![random.pick(&forms::helper()), FENCE_I],
+            _ => vec![FENCE_I],
+        };
+        for form in forms {
+            guest.extend(instruction(random, form));
+        }
+        let after = random.below(3);
+        guest.extend(stream(random, after, &self.inline, &self.all));
+        guest
     }
 
     /// Random bytes, or a stream, now and then cut or with a bit changed.
@@ -84,6 +109,7 @@ impl Guests {
             0 => random.bytes_below(33),
             1 => random.bytes_below(300),
             2 => self.repeated(random).repeat(58 + many),
+            3 | 4 => self.fenced(random),
             _ => stream(random, many, &self.inline, &self.all),
         };
         match random.below(8) {
@@ -96,23 +122,33 @@ impl Guests {
 
     /// An inline instruction of the class, its fields anywhere.
     fn plain(&self, random: &mut Random, class: Class) -> Vec<u8> {
-        of_class(class, || {
+        of_class(&[class], || {
             let form = random.pick(&self.inline);
             bytes(encode(form, random.next() as u32))
         })
     }
 
-    /// A block of `length` inline instructions of all kinds, of which the last ends it; their fields are anywhere.
+    /// `many` inline instructions of all kinds after which a block goes on; their fields are anywhere.
+    fn plain_straight(&self, random: &mut Random, many: usize) -> Vec<u8> {
+        (0..many).flat_map(|_| self.plain(random, Class::Next)).collect()
+    }
+
+    /// A block of `length` inline instructions of all kinds, of which the last, a jump or a branch, ends it.
     pub fn plain_block(&self, random: &mut Random, length: usize) -> Vec<u8> {
-        let mut guest = Vec::new();
-        for _ in 1..length {
-            guest.extend(self.plain(random, Class::Next));
-        }
+        let mut guest = self.plain_straight(random, length - 1);
         guest.extend(self.plain(random, Class::Ends));
         guest
     }
 
-    /// One inline instruction of any kind, its fields anywhere; one in eight ends a block.
+    /// A block of `length` inline instructions of all kinds, of which the last is FENCE.I, with as many behind it.
+    pub fn plain_fenced(&self, random: &mut Random, length: usize) -> Vec<u8> {
+        let mut guest = self.plain_straight(random, length - 1);
+        guest.extend(bytes(encode(FENCE_I, random.next() as u32)));
+        guest.extend(self.plain_block(random, length));
+        guest
+    }
+
+    /// One inline instruction of any kind but FENCE.I, its fields anywhere; one in eight ends a block.
     pub fn plain_single(&self, random: &mut Random) -> Vec<u8> {
         let class = if random.below(8) == 0 { Class::Ends } else { Class::Next };
         self.plain(random, class)
@@ -123,18 +159,26 @@ impl Guests {
 mod tests {
     use super::*;
 
+    /// The classes of the whole guest's instructions.
+    fn classes(guest: &[u8]) -> Vec<Class> {
+        let (mut at, mut classes) = (0, Vec::new());
+        while let Some((class, size)) = first(&guest[at..], false) {
+            classes.push(class);
+            at += size;
+        }
+        assert_eq!(at, guest.len());
+        classes
+    }
+
     #[test]
     fn plain_blocks_end_with_their_last() {
         let (guests, mut random) = (Guests::default(), Random(1));
         for length in [1, 2, 8, 64] {
-            let guest = guests.plain_block(&mut random, length);
-            let (mut at, mut classes) = (0, Vec::new());
-            while let Some((class, size)) = first(&guest[at..], false) {
-                classes.push(class);
-                at += size;
-            }
-            let expected = [vec![Class::Next; length - 1], vec![Class::Ends]].concat();
-            assert_eq!((at, classes), (guest.len(), expected));
+            let until = |last| [vec![Class::Next; length - 1], vec![last]].concat();
+            let block = guests.plain_block(&mut random, length);
+            assert_eq!(classes(&block), until(Class::Ends));
+            let fenced = guests.plain_fenced(&mut random, length);
+            assert_eq!(classes(&fenced), [until(Class::FenceI), until(Class::Ends)].concat());
         }
     }
 }

@@ -1,5 +1,6 @@
 //! The rows of document 01's "Marked blocks".
 
+use crate::case::PLAIN;
 use crate::{words, Case, LONGEST};
 
 /// What document 01 has found.
@@ -14,7 +15,7 @@ pub enum Found {
 
 use Found::{Block, Refused, Size};
 
-/// A row: its name, the question, and what is found. No row ends by helper.
+/// A row: its name, the question, and what is found. The end kind of each block is plain.
 pub struct Row {
     pub name: &'static str,
     pub case: Case,
@@ -73,7 +74,7 @@ pub fn rows() -> Vec<Row> {
     ]
 }
 
-/// What differs from the row in what `translate` answers (refusal, length, count, helper) and leaves in the output.
+/// What differs from the row in what `translate` answers (refusal, length, count, end kind) and leaves in the output.
 pub fn differs(row: &Row, translate: impl FnOnce(&mut [u8]) -> [u32; 4]) -> Option<String> {
     let mut output = vec![FILL; LONGEST + 8];
     let answer = translate(&mut output[..row.case.room]);
@@ -81,8 +82,8 @@ pub fn differs(row: &Row, translate: impl FnOnce(&mut [u8]) -> [u32; 4]) -> Opti
     let words = words(written);
     let expected = match &row.found {
         Refused(number) => [*number, 0, 0, 0],
-        Block(words, count) => [0, 4 * words.len() as u32, *count, 0],
-        Size(words, count) => [0, 4 * *words as u32, *count, 0],
+        Block(words, count) => [0, 4 * words.len() as u32, *count, PLAIN],
+        Size(words, count) => [0, 4 * *words as u32, *count, PLAIN],
     };
     let same = match &row.found {
         Block(found, _) => *found == words,

@@ -3,6 +3,8 @@
 // The taken text stays as it is.
 #![allow(dead_code, clippy::let_and_return)]
 
+use draw::case::{HELPER, PLAIN};
+
 include!(concat!(env!("OUT_DIR"), "/emuko.rs"));
 
 /// The fields of the source's `Hart` that translation reads.
@@ -75,7 +77,8 @@ pub struct Answer {
     pub refusal: u32,
     pub length: u32,
     pub count: u32,
-    pub helper: u32,
+    /// The end kind. The Rust itself knows plain and helper alone.
+    pub end: u32,
 }
 
 fn refused(refusal: u32) -> Answer {
@@ -111,7 +114,8 @@ pub fn translate(
         return refused(6);
     }
     output[..length].copy_from_slice(&block.code);
-    Answer { refusal: 0, length: length as u32, count: block.instrs, helper: block.helper as u32 }
+    let end = if block.helper { HELPER } else { PLAIN };
+    Answer { refusal: 0, length: length as u32, count: block.instrs, end }
 }
 
 /// What placing answers; after a refusal every other number is zero.

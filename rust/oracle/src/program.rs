@@ -1,8 +1,7 @@
 //! Document 01's program: standard input in, lines out.
 
-use crate::translate;
-use draw::marked::HELPERS;
-use draw::{words, LONGEST};
+use crate::expected;
+use draw::{words, Case, LONGEST};
 
 pub fn run(input: &[u8]) -> String {
     if input.len() < 13 {
@@ -12,8 +11,9 @@ pub fn run(input: &[u8]) -> String {
     let limit = u32::from_le_bytes(input[8..12].try_into().unwrap());
     let guest = &input[13..];
     let guest = &guest[..guest.len().min(256)];
+    let case = Case { pc, ignore_ebreak: input[12] != 0, ..Case::new(guest, limit) };
     let mut output = [0; LONGEST];
-    let answer = translate(guest, pc, limit, input[12] != 0, 0, HELPERS, &mut output);
+    let answer = expected(&case, &mut output);
     if answer.refusal != 0 {
         return format!("refused {}\n", answer.refusal);
     }

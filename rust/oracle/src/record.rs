@@ -1,9 +1,12 @@
-//! The recorded answers: cases drawn from a fixed seed, each with what the Rust says of it.
+//! The recorded answers: cases drawn from a fixed seed, each with what the Rust says of it; of blocks that FENCE.I ends,
+//! with their count as the limit.
 //! The README describes the files byte by byte.
 
-use crate::{ask, compressed_immediates, decode, place};
+use crate::{compressed_immediates, decode, expected, place};
 use draw::case::{self, BAD_SLOTS, HELPERS};
-use draw::forms::{self, helper, inline, inline32, Form, INLINE16};
+use draw::forms::{
+    self, encode, helper, inline, inline32, Form, FENCE, FENCE_I, INLINE16, LEFTOVER,
+};
 use draw::guest::{instruction, next_instruction, stream};
 use draw::marked::{DIV, LONG_PC};
 use draw::place::PlaceCase;
@@ -11,10 +14,12 @@ use draw::{Case, Random, LONGEST};
 
 const SEED: u64 = 0x2B13_4309_95A6_4001;
 const MAGIC: &[u8; 8] = b"A64BLOCK";
+/// C.NOP.
+const NOP: [u8; 2] = [0x01, 0x00];
 
 fn block_length(case: &Case) -> usize {
     let mut output = [0; LONGEST];
-    ask(case, &mut output).length as usize
+    expected(case, &mut output).length as usize
 }
 
 /// An accepted case's room: what the block needs, or more.
@@ -105,7 +110,7 @@ fn sequences(random: &mut Random, cases: &mut Vec<Case>) {
     for limit in [0, 1, 2, 63, 64, 65, u32::MAX] {
         for many in [0, 1, 2, 62, 63, 64, 65, 66] {
             for last in [&[0x02, 0x90][..], &[0x82, 0x80], &[0x41, 0x9c], &[0x03, 0x30, 0, 0]] {
-                let guest = [[0x01, 0x00].repeat(many), last.to_vec()].concat();
+                let guest = [NOP.repeat(many), last.to_vec()].concat();
                 let case = Case { limit, ..Case::draw(random, guest) };
                 cases.push(enough(random, case));
             }
@@ -139,6 +144,70 @@ fn largest(random: &mut Random, cases: &mut Vec<Case>) {
     }
 }
 
+/// C.NOPs, instructions of the forms, and two more after which the Rust's block goes on.
+fn after_nops(random: &mut Random, before: usize, forms: &[Form]) -> Vec<u8> {
+    let mut guest = NOP.repeat(before);
+    for &form in forms {
+        guest.extend(instruction(random, form));
+    }
+    guest.extend(next_instruction(random, &INLINE16));
+    guest.extend(next_instruction(random, &inline32()));
+    guest
+}
+
+/// FENCE.I at each place that matters, the limit before, at and behind it; the output enough, exactly so, a byte less.
+fn fence_places(random: &mut Random, cases: &mut Vec<Case>) {
+    for before in [0, 1, 2, 3, 7, 61, 62, 63, 64] {
+        for limit in [before.max(1), before + 1, before + 2, 64, 65, u32::MAX] {
+            let guest = after_nops(random, before as usize, &[FENCE_I]);
+            let case = Case { limit, ..Case::draw(random, guest) };
+            let length = block_length(&case);
+            for room in [length, length - 1] {
+                cases.push(Case { room, ..case.clone() });
+            }
+            cases.push(enough(random, case));
+        }
+    }
+}
+
+/// What stands beside FENCE.I: FENCE, another FENCE.I, an encoding that leaves scratch words, a helper's instruction.
+fn fence_neighbours(random: &mut Random, cases: &mut Vec<Case>) {
+    let helpers = helper();
+    for _ in 0..4 {
+        let (left, helper) = (random.pick(&LEFTOVER), random.pick(&helpers));
+        let beside = [FENCE, FENCE_I, left, helper];
+        let pairs =
+            beside.iter().flat_map(|&form| [[form, FENCE_I], [FENCE_I, form], [FENCE, form]]);
+        for forms in pairs {
+            for before in 0..3 {
+                let guest = after_nops(random, before, &forms);
+                let mut case = Case::draw(random, guest);
+                case.limit = case.limit.max(before as u32 + random.below(4) as u32);
+                cases.push(enough(random, case));
+            }
+        }
+    }
+}
+
+/// FENCE and FENCE.I with each field set, first and after a C.NOP, and cut to each of their lengths.
+fn fence_fields(random: &mut Random, cases: &mut Vec<Case>) {
+    let mut guests = Vec::new();
+    for form in [FENCE, FENCE_I] {
+        for free in [0, 0xf80, 0xf_8000, 0xfff0_0000, u32::MAX] {
+            let fence = encode(form, free).to_le_bytes();
+            guests.extend([[&fence[..], &NOP].concat(), [&NOP, &fence[..], &NOP].concat()]);
+        }
+        for before in [0, 1] {
+            let guest = after_nops(random, before, &[form]);
+            guests.extend((0..=4).map(|cut| guest[..2 * before + cut].to_vec()));
+        }
+    }
+    for guest in guests {
+        let case = Case { limit: 3, ..Case::draw(random, guest) };
+        cases.push(enough(random, case));
+    }
+}
+
 /// The cases of `blocks.bin`.
 fn cases() -> Vec<Case> {
     let mut random = Random(SEED);
@@ -149,6 +218,9 @@ fn cases() -> Vec<Case> {
     sequences(&mut random, &mut cases);
     bytes(&mut random, &mut cases);
     largest(&mut random, &mut cases);
+    fence_places(&mut random, &mut cases);
+    fence_neighbours(&mut random, &mut cases);
+    fence_fields(&mut random, &mut cases);
     cases
 }
 
@@ -164,9 +236,9 @@ fn put_case(file: &mut Vec<u8>, case: &Case) {
     }
     file.extend((case.room as u32).to_le_bytes());
     let mut output = vec![0; case.room];
-    let answer = ask(case, &mut output);
+    let answer = expected(case, &mut output);
     let length = answer.length as usize;
-    file.extend([answer.refusal as u8, answer.helper as u8, answer.count as u8]);
+    file.extend([answer.refusal as u8, answer.end as u8, answer.count as u8]);
     file.extend((length as u16 / 4).to_le_bytes());
     file.extend(&output[..length]);
 }

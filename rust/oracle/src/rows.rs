@@ -1,12 +1,12 @@
 //! Document 01's "Marked blocks", asked of the Rust.
 
-use crate::{ask, program};
+use crate::{expected, program};
 use draw::marked::{differs, rows, Row, PRINTED};
 
 fn asked(row: &Row) -> Option<String> {
     differs(row, |output| {
-        let a = ask(&row.case, output);
-        [a.refusal, a.length, a.count, a.helper]
+        let a = expected(&row.case, output);
+        [a.refusal, a.length, a.count, a.end]
     })
 }
 

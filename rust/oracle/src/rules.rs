@@ -1,6 +1,7 @@
-//! Document 01's "How a block is read" and "Place", read a second time and compared with the Rust.
+//! Document 01's "How a block is read" with document 02's No. 3, and "Place", read a second time and compared with the Rust.
 
-use crate::{ask, place, Answer};
+use crate::{expected, place, Answer};
+use draw::case::{DROP, HELPER, PLAIN};
 use draw::class::{first, Class};
 use draw::{Case, Random, LONGEST};
 
@@ -9,7 +10,7 @@ fn leaves(instr: u32) -> bool {
     matches!(instr & 0x7f, 0x13 | 0x1b | 0x33 | 0x3b) || instr & 0xffff_fc43 == 0x9c41
 }
 
-/// Rules 1 and 5: refusal, count and whether a helper ends the block. 1 and 6 stand aside.
+/// Rules 1 and 5, and FENCE.I: refusal, count and end kind. Refusals 1 and 6 stand aside.
 fn walk(guest: &[u8], pc: u64, limit: u32, ignore_ebreak: bool) -> (u32, u32, u32) {
     if limit == 0 {
         return (2, 0, 0);
@@ -23,39 +24,40 @@ fn walk(guest: &[u8], pc: u64, limit: u32, ignore_ebreak: bool) -> (u32, u32, u3
             None if count == 0 => return (4, 0, 0),
             Some((Class::Uncovered, _)) if count == 0 => return (5, 0, 0),
             None | Some((Class::Uncovered, _)) => break,
-            Some((Class::Ends, _)) => return (0, count + 1, 0),
-            Some((Class::Helper, _)) => return (0, count + 1, 1),
+            Some((Class::Ends, _)) => return (0, count + 1, PLAIN),
+            Some((Class::Helper, _)) => return (0, count + 1, HELPER),
+            Some((Class::FenceI, _)) => return (0, count + 1, DROP),
             Some((Class::Next, size)) => {
                 at += size;
                 count += 1;
             }
         }
     }
-    (0, count, 0)
+    (0, count, PLAIN)
 }
 
 const FILL: u8 = 0xA5;
 const RET: [u8; 4] = [0xC0, 0x03, 0x5F, 0xD6];
 
-/// The Rust's answer if it is as the rules say, else what differs.
+/// What is expected of Translate if it is as the rules say, else what differs.
 pub fn compare(case: &Case) -> Result<Answer, String> {
     let mut output = vec![FILL; case.room];
-    let answer = ask(case, &mut output);
-    let (refusal, count, helper) =
-        if !case.slot_offset.is_multiple_of(8) || case.slot_offset > 32_512 {
-            (1, 0, 0)
-        } else {
-            walk(&case.guest, case.pc, case.limit, case.ignore_ebreak)
-        };
+    let answer = expected(case, &mut output);
+    let (refusal, count, end) = if !case.slot_offset.is_multiple_of(8) || case.slot_offset > 32_512
+    {
+        (1, 0, 0)
+    } else {
+        walk(&case.guest, case.pc, case.limit, case.ignore_ebreak)
+    };
     let length = answer.length as usize;
     let good = if answer.refusal == 6 && refusal == 0 {
         let mut longest = vec![FILL; LONGEST];
-        let whole = ask(case, &mut longest);
+        let whole = expected(case, &mut longest);
         whole.refusal == 0 && case.room < whole.length as usize && length == 0
     } else if answer.refusal != 0 {
         answer == Answer { refusal, ..Answer::default() }
     } else {
-        (refusal, count, helper) == (0, answer.count, answer.helper)
+        (refusal, count, end) == (0, answer.count, answer.end)
             && length.is_multiple_of(4)
             && length <= LONGEST
             && output[..length].ends_with(&RET)
@@ -63,7 +65,7 @@ pub fn compare(case: &Case) -> Result<Answer, String> {
     if good && output[length..].iter().all(|&byte| byte == FILL) {
         Ok(answer)
     } else {
-        Err(format!("{case:x?}: {answer:?}, the rules give {:?}", (refusal, count, helper)))
+        Err(format!("{case:x?}: {answer:?}, the rules give {:?}", (refusal, count, end)))
     }
 }
 

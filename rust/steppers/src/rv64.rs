@@ -1,4 +1,4 @@
-//! RV64 run: the RISC-V Unprivileged ISA (RV64I, M, C) with document 01's source readings.
+//! RV64 run: the RISC-V Unprivileged ISA (RV64I, M, C) with document 01's source readings; FENCE.I ends it (document 02, No. 3).
 
 #[derive(Clone, Copy, Debug, PartialEq, Eq)]
 pub struct Rv64Answer {
@@ -10,12 +10,13 @@ pub struct Rv64Answer {
 /// What an instruction does to the block.
 enum Flow {
     Next,
-    Jump(u64),
+    /// Ends it, and the next PC is this.
+    End(u64),
     /// Neither inline nor known; helper instructions are among these.
     Uncovered,
 }
 
-use Flow::{Jump, Next, Uncovered};
+use Flow::{End, Next, Uncovered};
 
 fn refused(refusal: u32) -> Rv64Answer {
     Rv64Answer { refusal, count: 0, next_pc: 0 }
@@ -69,7 +70,7 @@ pub fn rv64_run(
         };
         match flow {
             Next => pc = pc.wrapping_add(length),
-            Jump(target) => return Rv64Answer { refusal: 0, count: count + 1, next_pc: target },
+            End(next_pc) => return Rv64Answer { refusal: 0, count: count + 1, next_pc },
             Uncovered if count == 0 => return refused(5),
             Uncovered => break,
         }
@@ -116,12 +117,12 @@ fn step32(instr: u32, pc: u64, x: &mut [u64; 32]) -> Flow {
                 | (instr >> 20 & 1) << 11
                 | (instr >> 21 & 0x3FF) << 1;
             set(x, rd, pc.wrapping_add(4));
-            return Jump(pc.wrapping_add(imm as i32 as u64));
+            return End(pc.wrapping_add(imm as i32 as u64));
         }
         // JALR, with any funct3
         0x67 => {
             set(x, rd, pc.wrapping_add(4));
-            return Jump(a.wrapping_add(imm_i) & !1);
+            return End(a.wrapping_add(imm_i) & !1);
         }
         // BRANCH
         0x63 => {
@@ -138,7 +139,7 @@ fn step32(instr: u32, pc: u64, x: &mut [u64; 32]) -> Flow {
                 | (instr >> 7 & 1) << 11
                 | (instr >> 25 & 0x3F) << 5
                 | (instr >> 8 & 0xF) << 1;
-            return Jump(pc.wrapping_add(if taken { imm as i32 as u64 } else { 4 }));
+            return End(pc.wrapping_add(if taken { imm as i32 as u64 } else { 4 }));
         }
         // OP-IMM
         0x13 => match funct3 {
@@ -201,7 +202,8 @@ fn step32(instr: u32, pc: u64, x: &mut [u64; 32]) -> Flow {
             _ => return Uncovered,
         },
         // MISC-MEM: FENCE, FENCE.I
-        0x0F if funct3 < 2 => return Next,
+        0x0F if funct3 == 0 => return Next,
+        0x0F if funct3 == 1 => return End(pc.wrapping_add(4)),
         _ => return Uncovered,
     };
     set(x, rd, value);
@@ -285,14 +287,14 @@ fn step16(instr: u16, pc: u64, ignore_ebreak: bool, x: &mut [u64; 32]) -> Flow {
                 | bit(2, 5)
                 | bit(11, 4)
                 | (i >> 3 & 7) << 1;
-            return Jump(pc.wrapping_add(sign_extend(imm, 12)));
+            return End(pc.wrapping_add(sign_extend(imm, 12)));
         }
         // C.BEQZ, C.BNEZ
         (1, 6 | 7) => {
             let imm =
                 bit(12, 8) | (i >> 5 & 3) << 6 | bit(2, 5) | (i >> 10 & 3) << 3 | (i >> 3 & 3) << 1;
             let taken = (x[rd_marked] == 0) == (i >> 13 == 6);
-            return Jump(pc.wrapping_add(if taken { sign_extend(imm, 9) } else { 2 }));
+            return End(pc.wrapping_add(if taken { sign_extend(imm, 9) } else { 2 }));
         }
         // C.SLLI
         (2, 0) if rd != 0 => set(x, rd, x[rd] << shamt),
@@ -301,11 +303,11 @@ fn step16(instr: u16, pc: u64, ignore_ebreak: bool, x: &mut [u64; 32]) -> Flow {
             (1, 0, 0) if ignore_ebreak => {}
             (_, 0, _) => return Uncovered,
             // C.JR, C.JALR
-            (0, _, 0) => return Jump(x[rd] & !1),
+            (0, _, 0) => return End(x[rd] & !1),
             (_, _, 0) => {
                 let target = x[rd] & !1;
                 x[1] = pc.wrapping_add(2);
-                return Jump(target);
+                return End(target);
             }
             // C.MV, C.ADD
             (0, _, _) => x[rd] = x[rs2],
@@ -374,6 +376,32 @@ mod tests {
         assert_eq!(run(&[0x01, 0xA0], 0x1000, 9, false), answer(1, 0x1000));
         // FENCE with every field other than funct3 set.
         assert_eq!(run(&[0x8F, 0x8F, 0xFF, 0xFF], 0x1000, 9, false), answer(1, 0x1004));
+    }
+
+    /// It is counted, and what stands behind it is not done.
+    #[test]
+    fn fence_i_ends_a_block() {
+        let li = [0x7D, 0x55];
+        for fence_i in [[0x0F, 0x10, 0, 0], [0x8F, 0x9F, 0xFF, 0xFF]] {
+            for (before, limit, pc, count, next_pc) in [
+                (0, 9, 0x1000, 1, 0x1004),
+                (1, 9, 0x1000, 2, 0x1006),
+                (2, 3, 0x1000, 3, 0x1008),
+                (1, 1, 0x1000, 1, 0x1002),
+                (63, 65, 0x1000, 64, 0x1082),
+                (64, 65, 0x1000, 64, 0x1080),
+                (0, 9, u64::MAX - 1, 1, 2),
+            ] {
+                let guest = [&[1, 0].repeat(before)[..], &fence_i, &li].concat();
+                let mut regs = [0; 32];
+                let answer = rv64_run(&guest, pc, limit, false, &mut regs);
+                assert_eq!(answer, Rv64Answer { refusal: 0, count, next_pc }, "{guest:02x?}");
+                assert_eq!(regs, [0; 32]);
+            }
+        }
+        // FENCE is no end.
+        let answer = Rv64Answer { refusal: 0, count: 2, next_pc: 0x1008 };
+        assert_eq!(run(&[0x0F, 0, 0, 0, 0x0F, 0x10, 0, 0, 1, 0], 0x1000, 9, false), answer);
     }
 
     #[test]
