@@ -20,7 +20,7 @@ use Rattle.fetch_window.proofs.Reading.{index-add}
 use Rattle.jit_arm64.specs.declared.fetch.Fetched.{Fetched}
 use Rattle.jit_arm64.specs.declared.block.Stop.{Stop}
 use Rattle.jit_arm64.specs.declared.block.Stop.the-variants.{Limit, Ended, Helper, Uncovered, NotFetched}
-use Rattle.jit_arm64.specs.Block.{is-32, size-of, emit-native, emit-term-helper, fetch, Walk, walked, in-front, helped, step, instr-walk, walk, whole-walk}
+use Rattle.jit_arm64.specs.Block.{is-32, size-of, emit-native, emit-term-helper, fetch, walked, in-front, helped, step, instr-walk, walk, whole-walk}
 use Rattle.jit_arm64.specs.Fence.{is-fence-i, fence-or, to-fence, fence}
 use Rattle.jit_arm64.specs.Parts.{FetchedOf, Compiled, fence-walk, is-fenced, end-room, Walks}
 use Rattle.jit_arm64.proofs.Emitting.{Appended, put, words-append, words-size, Apart, native-size, native-apart, helped-size, uncovered-size}
@@ -235,6 +235,7 @@ module _ {h : Host} {guest : List ℕ} {start limit : ℕ} {l : List ℕ} {len i
             let x = fenced h guest start limit (omega arith) g (ap (λ (j : ℕ). walk h guest start j 0 0) one-more ∙ sym (stepped Continue f 0)) in
             rw (x, g)
             (record { holds = more (e .calls) (c .holds) added (omega arith) ∙ rw (append-nil (e .calls)) refl; count = next; stop = refl; pc = refl; fence = refl; few = omega arith; long = a .long; room = omega arith })
+
       -- what the inline emitter left, and the helper's words
       module _ {out left : Emitted} (i₀ : Compiled (h .«slot_offset») (e .calls) (e .flow) left) (none : left .flow ≡ None)
           (c : Compiled (h .«slot_offset») (e .calls ++ helper .calls) (helper .flow) out) {l′ : List ℕ} {len′ : ℕ} (added : Added max-words l len l′ len′ (held (out .em))) where

@@ -137,13 +137,7 @@ fn is_fence_i(instr: u32) -> bool
 }
 
 // The instructions from `start` on, at most `most` of them and none behind FENCE.I: each by itself, its words appended.
-fn walk(
-    words: &mut [u32; MAX_WORDS],
-    guest: &[u8],
-    start: u64,
-    most: u32,
-    host: Host,
-) -> Walked
+fn walk(words: &mut [u32; MAX_WORDS], guest: &[u8], start: u64, most: u32, host: Host) -> Walked
     requires { ⌜ (length (now words) ≡ max-words) × (host .«slot_offset» ≤ max-slot-offset) × (most ≤ max-instrs) ⌝ }
     ensures { λ r. ⌜ Walks (host .«slot_offset») start (fence-walk max-instrs host (now (guest .entry)) start most) (fence max-instrs host (now (guest .entry)) start most) (now (words .exit)) r ⌝ }
 {
@@ -184,7 +178,13 @@ fn walk(
             break Stop::Limit;
         }
     };
-    Walked { len, i, n, stop, fence }
+    Walked {
+        len,
+        i,
+        n,
+        stop,
+        fence,
+    }
 }
 
 // The block from `start` on: the words of its instructions, then its end.
@@ -197,7 +197,11 @@ pub fn compile_native_block(guest: &[u8], start: u64, limit: u32, host: Host) ->
     let done = walk(&mut em.words, guest, start, most, host);
     em.len = done.len;
     let stop = done.stop;
-    let end = emit_end(stop, std::num::wrapping_add_u64(start, done.i as u64), done.n);
+    let end = emit_end(
+        stop,
+        std::num::wrapping_add_u64(start, done.i as u64),
+        done.n,
+    );
     let em = em.append(end);
     NativeBlock {
         em,

@@ -104,7 +104,7 @@ module _ (w pc : ℕ) (x : List ℕ) where
   below n i e p q =
       (pick-sets (ltb (funct3 w) n) _ _ p (omega N.arith), either done-by made-by (ltb (funct3 w) n) q refl)
 
-  pub fence : S.Gives (S.fenced (funct3 w)) (D.misc-mem w) 4 pc x
+  pub fence : S.Gives (S.fenced (funct3 w) (add pc 4)) (D.misc-mem w) 4 pc x
   unfolding S.fenced S.fences D.misc-mem D.fences S.applied exec
   fence = (
     pick-sets (eqb (funct3 w) 0) _ _ (omega N.arith) (pick-sets (eqb (funct3 w) 1) _ _ (omega N.arith) (omega N.arith)),
@@ -115,7 +115,7 @@ module _ (w pc : ℕ) (x : List ℕ) where
   done k = made-by (D.by-class k w)
 
   -- where the opcode is none that the stepper's `match` has before it
-  pub other : (P : Type 0) → Missed P computing (w % 128) → S.Gives (S.other w) (D.decode32 w) 4 pc x
+  pub other : (P : Type 0) → Missed P computing (w % 128) → S.Gives (S.other w (add pc 4)) (D.decode32 w) 4 pc x
   unfolding S.other S.others S.applied exec D.decode32 D.by-class class-of
   other P h =
       let load = below 7 Instr.Helper Effect.Helper (omega N.arith) refl in

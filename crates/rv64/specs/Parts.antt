@@ -28,7 +28,6 @@ applied (Effect.Set rd v) pc x = next (write x rd v) pc
 applied (Effect.Link rd to) pc x = X.ended (write x rd pc) to
 applied (Effect.Ended to) pc x = X.ended x to
 applied Effect.Next pc x = next x pc
-applied Effect.FenceI pc x = X.ended x pc
 applied Effect.Helper pc x = record { x = x; flow = Flow.Helper }
 applied Effect.Uncovered pc x = record { x = x; flow = Flow.Uncovered }
 
@@ -38,7 +37,6 @@ sets (Effect.Set rd v) = rd
 sets (Effect.Link rd to) = rd
 sets (Effect.Ended to) = 0
 sets Effect.Next = 0
-sets Effect.FenceI = 0
 sets Effect.Helper = 0
 sets Effect.Uncovered = 0
 
@@ -76,26 +74,27 @@ branched n x y to pc = lookup branches n (λ (k : Cond). ended (taken k x y) to 
 unfoldable pub below : ℕ → ℕ → Effect → Effect
 below w n e = cond (ltb (funct3 w) n) e Effect.Uncovered
 
-unfoldable pub fences : Table Effect
-fences =
+-- pc: the address after the instruction
+unfoldable pub fences : ℕ → Table Effect
+fences pc =
     (0b000, Effect.Next)
-    ∷ (0b001, Effect.FenceI)
+    ∷ (0b001, Effect.Ended pc)
     ∷ []
 
-unfoldable pub fenced : ℕ → Effect
-fenced n = lookup fences n itself Effect.Uncovered
+unfoldable pub fenced : ℕ → ℕ → Effect
+fenced n pc = lookup (fences pc) n itself Effect.Uncovered
 
 -- by opcode: LOAD, LOAD-FP, MISC-MEM, STORE, STORE-FP, AMO, SYSTEM
-unfoldable pub others : ℕ → Table Effect
-others w =
+unfoldable pub others : ℕ → ℕ → Table Effect
+others w pc =
     (0x03, below w 7 Effect.Helper)
     ∷ (0x07, Effect.Helper)
-    ∷ (0x0F, fenced (funct3 w))
+    ∷ (0x0F, fenced (funct3 w) pc)
     ∷ (0x23, below w 4 Effect.Helper)
     ∷ (0x27, Effect.Helper)
     ∷ (0x2F, Effect.Helper)
     ∷ (0x73, Effect.Uncovered)
     ∷ []
 
-unfoldable pub other : ℕ → Effect
-other w = lookup (others w) (opcode w) itself Effect.Uncovered
+unfoldable pub other : ℕ → ℕ → Effect
+other w pc = lookup (others w pc) (opcode w) itself Effect.Uncovered

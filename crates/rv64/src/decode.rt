@@ -209,25 +209,25 @@ fn below(w: u32, n: u32, e: Effect) -> Effect
     }
 }
 
-// MISC-MEM, by funct3.
-fn fence(n: u32) -> Effect
-    ensures { λ r. ⌜ r ≡ S.fenced n ⌝ }
+// MISC-MEM, by funct3; next is the address after the instruction.
+fn fence(n: u32, next: u64) -> Effect
+    ensures { λ r. ⌜ r ≡ S.fenced n next ⌝ }
 {
     match n {
         0b000 => Effect::Next,
-        0b001 => Effect::FenceI,
+        0b001 => Effect::Ended(next),
         _ => Effect::Uncovered,
     }
 }
 
 // The other opcodes, which set no register.
-fn other(w: u32) -> Effect
-    ensures { λ r. ⌜ r ≡ S.other w ⌝ }
+fn other(w: u32, next: u64) -> Effect
+    ensures { λ r. ⌜ r ≡ S.other w next ⌝ }
 {
     match w % 128 {
         LOAD => below(w, 7, Effect::Helper),
         LOAD_FP => Effect::Helper,
-        MISC_MEM => fence(w / 4096 % 8),
+        MISC_MEM => fence(w / 4096 % 8, next),
         STORE => below(w, 4, Effect::Helper),
         STORE_FP => Effect::Helper,
         AMO => Effect::Helper,
@@ -260,7 +260,7 @@ fn effect32(x: &[u64; 32], w: u32, pc: u64, next: u64) -> Effect
             let to = std::num::wrapping_add_u64(pc, isa::decode::imm_b(w));
             branch(w / 4096 % 8, a, b, to, next)
         }
-        _ => other(w),
+        _ => other(w, next),
     }
 }
 

@@ -29,8 +29,6 @@ pub enum Effect {
     Ended(u64),
     // goes on after the instruction
     Next,
-    // FENCE.I: the block's end; goes on after the instruction
-    FenceI,
     Helper,
     Uncovered,
 }
@@ -95,7 +93,6 @@ pub fn apply(x: &mut [u64; 32], e: Effect, next: u64) -> Flow
         }
         Effect::Ended(to) => Flow::Ended(to),
         Effect::Next => Flow::Next(next),
-        Effect::FenceI => Flow::Ended(next),
         Effect::Helper => Flow::Helper,
         Effect::Uncovered => Flow::Uncovered,
     }

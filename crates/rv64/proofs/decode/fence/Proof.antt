@@ -14,7 +14,7 @@ returns-2 c = rw (c .match .keys2)
 
 returns-3 : tie.Need-returns-3
 unfolding S.fenced S.fences
-returns-3 c = missed _ itself _ _ S.fences (c .match .rest)
+returns-3 c = missed _ itself _ _ (S.fences (c .before .args .next)) (c .match .rest)
 
 pub fence-spec : {M : Type 1} → statement M
 fence-spec = tie.close (tie.spec returns returns-2 returns-3)

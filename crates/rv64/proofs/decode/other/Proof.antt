@@ -35,7 +35,7 @@ returns-7 c = rw (c .match .keys7)
 
 returns-8 : tie.Need-returns-8
 unfolding S.other S.others
-returns-8 c = missed _ itself _ _ (S.others (c .before .args .w)) (c .match .rest)
+returns-8 c = missed _ itself _ _ (S.others (c .before .args .w) (c .before .args .next)) (c .match .rest)
 
 pub other-spec : {M : Type 1} → statement M
 other-spec =

@@ -34,10 +34,6 @@ returns-6 : tie.Need-returns-6
 unfolding S.applied
 returns-6 c = rw (c .enum-told3 .given .1) (refl, refl)
 
-returns-7 : tie.Need-returns-7
-unfolding S.applied
-returns-7 c = rw (c .enum-told4 .given .1) (refl, refl)
-
 pub apply-spec : {M : Type 1} → statement M
 apply-spec =
     tie.close
@@ -50,11 +46,9 @@ apply-spec =
     (λ c. search needs)
     (λ c. search needs)
     (λ c. search needs)
-    (λ c. search needs)
     returns
     returns-2
     returns-3
     returns-4
     returns-5
-    returns-6
-    returns-7)
+    returns-6)
