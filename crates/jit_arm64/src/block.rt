@@ -136,6 +136,18 @@ fn is_fence_i(instr: u32) -> bool
     instr % 128 == isa::OPCODE_MISC_MEM && instr / 4096 % 8 == isa::F3_FENCE_I
 }
 
+fn stopped(len: usize, i: usize, n: u32, stop: Stop, fence: bool) -> Walked
+    ensures { λ r. ⌜ r ≡ record { len = len; i = i; n = n; stop = stop; fence = fence } ⌝ }
+{
+    Walked {
+        len,
+        i,
+        n,
+        stop,
+        fence,
+    }
+}
+
 // The instructions from `start` on, at most `most` of them and none behind FENCE.I: each by itself, its words appended.
 fn walk(words: &mut [u32; MAX_WORDS], guest: &[u8], start: u64, most: u32, host: Host) -> Walked
     requires { ⌜ (length (now words) ≡ max-words) × (host .«slot_offset» ≤ max-slot-offset) × (most ≤ max-instrs) ⌝ }
@@ -178,13 +190,7 @@ fn walk(words: &mut [u32; MAX_WORDS], guest: &[u8], start: u64, most: u32, host:
             break Stop::Limit;
         }
     };
-    Walked {
-        len,
-        i,
-        n,
-        stop,
-        fence,
-    }
+    stopped(len, i, n, stop, fence)
 }
 
 // The block from `start` on: the words of its instructions, then its end.

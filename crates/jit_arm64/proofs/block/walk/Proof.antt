@@ -3,6 +3,7 @@ use borrow.Author.Needs.{needs}
 use Prim.Native.Nat.{_-_}
 use mathlib.Core.Path.{_≡_, refl, sym, _∙_}
 use mathlib.Core.Bool.{false}
+use mathlib.Core.Logic.{⊎-elim}
 use Rattle.a64_emitter.specs.Parts.{held}
 use Rattle.jit_arm64.proofs.Flows.{goes-on, not-terminate}
 use Rattle.jit_arm64.proofs.Walking.{Walking, begin, at-limit, not-fetched, size-4, on, by-end, by-fence, by-helper, uncovered}
@@ -47,26 +48,18 @@ unfolding held
 loop-again c = (on (c .before .before .before .before .before .before .before .before .before .before .before .before .before .before .before .before .before .pre .2) (c .before .before .before .before .before .before .before .before .before .before .before .before .before .before .before .loop .inv .0) (c .before .before .before .before .before .before .before .before .before .before .before .before .before .before .if1 .left) (c .before .before .before .before .before .before .before .before .before .before .before .before .before .wrapping-add-u64 .ensures) (c .before .before .before .before .before .before .before .before .before .before .before .before .fetch .ensures) (c .before .before .before .before .before .before .before .before .before .before .if2 .left) (c .before .before .before .before .before .before .before .before .before .emit-native .ensures) (c .before .before .before .before .append-at2 .ensures) (goes-on _ (c .before .before .before .before .before .before .before .before .match .keys2) (c .before .before .match3 .keys2)) (sym (c .before .is-fence-i .ensures) ∙ c .if3 .left), c .before .before .before .before .before .before .before .before .before .before .before .before .before .before .before .loop .inv .1)
 
 returns : tie.Need-returns Inv-loop μ-loop
-returns c = rw (c .before .loop .inv .1) (at-limit (c .before .before .before .pre .2) (c .before .loop .inv .0) (c .if1 .taken))
-
-returns-2 : tie.Need-returns-2 Inv-loop μ-loop
-returns-2 c = rw (c .before .before .before .before .before .loop .inv .1) (not-fetched (c .before .before .before .before .before .before .before .pre .2) (c .before .before .before .before .before .loop .inv .0) (c .before .before .before .before .if1 .left) (c .before .before .before .wrapping-add-u64 .ensures) (c .before .before .fetch .ensures) (c .if2 .taken))
-
-returns-3 : tie.Need-returns-3 Inv-loop μ-loop
 unfolding held
-returns-3 c = rw (c .before .before .before .before .before .before .before .before .before .before .before .before .before .before .before .before .loop .inv .1) (by-helper (c .before .before .before .before .before .before .before .before .before .before .before .before .before .before .before .before .before .before .pre .2) (c .before .before .before .before .before .before .before .before .before .before .before .before .before .before .before .before .loop .inv .0) (c .before .before .before .before .before .before .before .before .before .before .before .before .before .before .before .if1 .left) (c .before .before .before .before .before .before .before .before .before .before .before .before .before .before .wrapping-add-u64 .ensures) (c .before .before .before .before .before .before .before .before .before .before .before .before .before .fetch .ensures) (c .before .before .before .before .before .before .before .before .before .before .before .if2 .left) (c .before .before .before .before .before .before .before .before .before .before .emit-native .ensures) (c .before .before .before .before .before .before .before .before .enum-told .given .1) (c .before .before .before .before .before .before .emit-term-helper .ensures) (c .before .before .append-at .ensures) (c .enum-told2 .given .1))
-
-returns-4 : tie.Need-returns-4 Inv-loop μ-loop
-unfolding held
-returns-4 c = rw (c .before .before .before .before .before .before .before .before .before .before .before .before .before .before .before .loop .inv .1) (uncovered (c .before .before .before .before .before .before .before .before .before .before .before .before .before .before .before .before .before .pre .2) (c .before .before .before .before .before .before .before .before .before .before .before .before .before .before .before .loop .inv .0) (c .before .before .before .before .before .before .before .before .before .before .before .before .before .before .if1 .left) (c .before .before .before .before .before .before .before .before .before .before .before .before .before .wrapping-add-u64 .ensures) (c .before .before .before .before .before .before .before .before .before .before .before .before .fetch .ensures) (c .before .before .before .before .before .before .before .before .before .before .if2 .left) (c .before .before .before .before .before .before .before .before .before .emit-native .ensures) (c .before .before .before .before .before .before .before .enum-told .given .1) (c .before .before .before .before .before .emit-term-helper .ensures) (c .before .append-at .ensures) (not-terminate _ (c .match2 .keys2)))
-
-returns-5 : tie.Need-returns-5 Inv-loop μ-loop
-unfolding held
-returns-5 c = rw (c .before .before .before .before .before .before .before .before .before .before .before .before .before .before .loop .inv .1) (by-end (c .before .before .before .before .before .before .before .before .before .before .before .before .before .before .before .before .pre .2) (c .before .before .before .before .before .before .before .before .before .before .before .before .before .before .loop .inv .0) (c .before .before .before .before .before .before .before .before .before .before .before .before .before .if1 .left) (c .before .before .before .before .before .before .before .before .before .before .before .before .wrapping-add-u64 .ensures) (c .before .before .before .before .before .before .before .before .before .before .before .fetch .ensures) (c .before .before .before .before .before .before .before .before .before .if2 .left) (c .before .before .before .before .before .before .before .before .emit-native .ensures) (c .before .before .before .append-at2 .ensures) (c .enum-told3 .given .1))
-
-returns-6 : tie.Need-returns-6 Inv-loop μ-loop
-unfolding held
-returns-6 c = by-fence (c .before .before .before .before .before .before .before .before .before .before .before .before .before .before .before .before .before .pre .2) (c .before .before .before .before .before .before .before .before .before .before .before .before .before .before .before .loop .inv .0) (c .before .before .before .before .before .before .before .before .before .before .before .before .before .before .if1 .left) (c .before .before .before .before .before .before .before .before .before .before .before .before .before .wrapping-add-u64 .ensures) (c .before .before .before .before .before .before .before .before .before .before .before .before .fetch .ensures) (c .before .before .before .before .before .before .before .before .before .before .if2 .left) (c .before .before .before .before .before .before .before .before .before .emit-native .ensures) (c .before .before .before .before .append-at2 .ensures) (goes-on _ (c .before .before .before .before .before .before .before .before .match .keys2) (c .before .before .match3 .keys2)) (sym (c .before .is-fence-i .ensures) ∙ c .if3 .taken)
+returns c =
+    let v = c .before .before .loop .inv in
+    let k = c .before .before .before .before .pre .2 in
+    rw (c .stopped .ensures)
+    (⊎-elim (λ t. rw (t .1, t .2, t .3, t .4, t .5, t .6, v .1) (at-limit k (v .0) (t .0 .taken)))
+    (⊎-elim (λ t. rw (t .5, t .6, t .7, t .8, t .9, t .10, v .1) (not-fetched k (v .0) (t .0 .left) (t .1 .ensures) (t .2 .ensures) (t .4 .taken)))
+    (⊎-elim (λ t. rw (t .16, t .17, t .18, t .19, t .20, t .21, v .1) (by-helper k (v .0) (t .0 .left) (t .1 .ensures) (t .2 .ensures) (t .4 .left) (t .5 .ensures) (t .7 .given .1) (t .9 .ensures) (t .13 .ensures) (t .15 .given .1)))
+    (⊎-elim (λ t. rw (t .15, t .16, t .17, t .18, t .19, t .20, v .1) (uncovered k (v .0) (t .0 .left) (t .1 .ensures) (t .2 .ensures) (t .4 .left) (t .5 .ensures) (t .7 .given .1) (t .9 .ensures) (t .13 .ensures) (not-terminate _ (t .14 .keys2))))
+    (⊎-elim (λ t. rw (t .14, t .15, t .16, t .17, t .18, t .19, v .1) (by-end k (v .0) (t .0 .left) (t .1 .ensures) (t .2 .ensures) (t .4 .left) (t .5 .ensures) (t .10 .ensures) (t .13 .given .1)))
+    (λ t. rw (t .15, t .16, t .17, t .18, t .19, t .20) (by-fence k (v .0) (t .0 .left) (t .1 .ensures) (t .2 .ensures) (t .4 .left) (t .5 .ensures) (t .10 .ensures) (goes-on _ (t .6 .keys2) (t .12 .keys2)) (sym (t .13 .ensures) ∙ t .14 .taken)))))))
+    (c .before .if1 .came))
 
 pub walk-spec : {M : Type 1} → statement M
 walk-spec =
@@ -90,9 +83,5 @@ walk-spec =
     (λ c κs. search needs)
     loop-less
     loop-again
-    returns
-    returns-2
-    returns-3
-    returns-4
-    returns-5
-    returns-6)
+    (λ c κs. search needs)
+    returns)
