@@ -41,12 +41,12 @@ helped-most EmitFlow.Terminate cs n pc = omega arith
 helped-most EmitFlow.None cs n pc = omega arith
 
 module _ (h : Host) (guest : List ℕ) (start limit most : ℕ) where
-  -- the FENCE.I o leaves so many instructions after n others; that walk w is the one with `to` left, and stops at its limit
+  -- the FENCE.I o leaves so many instructions after n others; that walk w is the one with `to` left, and its limit ends it
   record Left (o : Option ℕ) (n : ℕ) (w : ℕ → Walk) (to : ℕ) : Type 0 where
     left : ℕ
     is : min (limit-at o limit) most ≡ n + left
     same : w left ≡ w to
-    stop : (m : ℕ) → o ≡ some m → w left .stop ≡ Stop.Limit
+    ends : (m : ℕ) → o ≡ some m → (w left .stop ≡ Stop.Limit) × (w left .count ≡ m)
 
   -- the search behind an instruction that is no FENCE.I, and the search from one that was fetched
   after : ℕ → ℕ → ℕ → Option ℕ
@@ -81,25 +81,25 @@ module _ (h : Host) (guest : List ℕ) (start limit most : ℕ) where
     step-cut EmitFlow.Continue e helper size i zero c = absurd (omega (arith, walk-count h guest start k (suc n) (i + size), c))
     step-cut EmitFlow.Continue e helper size i (suc m) c =
         let y = go (i + size) m (omega (arith, c)) in
-        record { left = y .left; is = y .is; same = ap (in-front (e .calls)) (y .same); stop = y .stop }
+        record { left = y .left; is = y .is; same = ap (in-front (e .calls)) (y .same); ends = y .ends }
     step-cut EmitFlow.Terminate e helper size i m c =
-        rw (few m n (i + size) (omega (arith, c))) (record { left = k; is = hk; same = refl; stop = λ j. never j })
+        rw (few m n (i + size) (omega (arith, c))) (record { left = k; is = hk; same = refl; ends = λ j. never j })
     step-cut EmitFlow.None e helper size i m c =
         let l = helped-most (helper .flow) (e .calls ++ helper .calls) n (add start i) in
-        rw (few m n (i + size) (omega (arith, c, l))) (record { left = k; is = hk; same = refl; stop = λ j. never j })
+        rw (few m n (i + size) (omega (arith, c, l))) (record { left = k; is = hk; same = refl; ends = λ j. never j })
 
     fence-cut : (instr i m : ℕ) → is-fence-i instr ≡ true → instr-walk h (some instr) start n i (walk h guest start k) .count ≡ n + m
         → Left (seek m (some instr) n i) (suc n) (λ (l : ℕ). instr-walk h (some instr) start n i (walk h guest start l)) 0
     unfolding instr-walk step walk seek fence-or limit-at
     fence-cut instr i zero f c =
         absurd (omega (arith, walk-count h guest start k (suc n) (i + size-of instr), rw (fence-goes-on h (add start i) instr f) at c))
-    fence-cut instr i (suc m) f c = rw f (record { left = 0; is = omega (arith, hk); same = refl; stop = λ j e. rw (fence-goes-on h (add start i) instr f) refl })
+    fence-cut instr i (suc m) f c = rw f (record { left = 0; is = omega (arith, hk); same = refl; ends = λ j e. rw (fence-goes-on h (add start i) instr f) (refl, cc) })
 
     instr-cut : (f : Option ℕ) (i m : ℕ) → instr-walk h f start n i (walk h guest start k) .count ≡ n + m
         → Left (seek m f n i) (suc n) (λ (l : ℕ). instr-walk h f start n i (walk h guest start l)) (behind f (λ (size : ℕ). cut guest start k (i + size)))
     unfolding instr-walk behind seek fence-or limit-at
-    instr-cut none i zero c = record { left = k; is = hk; same = refl; stop = λ j. never j }
-    instr-cut none i (suc m) c = record { left = k; is = hk; same = refl; stop = λ j. never j }
+    instr-cut none i zero c = record { left = k; is = hk; same = refl; ends = λ j. never j }
+    instr-cut none i (suc m) c = record { left = k; is = hk; same = refl; ends = λ j. never j }
     instr-cut (some instr) i m c =
         by (is-fence-i instr) (λ f. rw f (fence-cut instr i m f c))
         (λ f. rw (unlike m instr n i f, f) (step-cut _ _ (emit-term-helper h (add start i) instr n) (size-of instr) i m c))
@@ -107,10 +107,10 @@ module _ (h : Host) (guest : List ℕ) (start limit most : ℕ) where
   walk-cut : (k n i m : ℕ) → min limit most ≡ n + k → walk h guest start k n i .count ≡ n + m
       → Left (to-fence guest start m n i) n (λ (l : ℕ). walk h guest start l n i) (cut guest start k i)
   unfolding walk cut to-fence limit-at
-  walk-cut zero n i m hk c = let e : m ≡ 0 = omega (arith, c) in rw e (record { left = 0; is = hk; same = refl; stop = λ j. never j })
+  walk-cut zero n i m hk c = let e : m ≡ 0 = omega (arith, c) in rw e (record { left = 0; is = hk; same = refl; ends = λ j. never j })
   walk-cut (suc k) n i m hk c =
       let y = instr-cut k n (omega (arith, hk)) (λ j p. walk-cut k (suc n) j p (omega (arith, hk))) (fetch (add start i) guest i) i m c in
-      rw (seek-is m n i) (record { left = suc (y .left); is = omega (arith, y .is); same = y .same; stop = y .stop })
+      rw (seek-is m n i) (record { left = suc (y .left); is = omega (arith, y .is); same = y .same; ends = y .ends })
 
   abbrev k : ℕ
   k = min limit most
@@ -128,6 +128,9 @@ module _ (h : Host) (guest : List ℕ) (start limit most : ℕ) where
   unfolding whole-walk fence
   whole-cut = rw left-is (at-start .same)
 
-  pub whole-stop : (m : ℕ) → fence most h guest start limit ≡ some m → whole-walk most h guest start (limit-at (fence most h guest start limit) limit) .stop ≡ Stop.Limit
+  -- the block that FENCE.I ends has its own count as its limit
+  pub whole-ends : (m : ℕ) → fence most h guest start limit ≡ some m
+      → (whole-walk most h guest start (limit-at (fence most h guest start limit) limit) .stop ≡ Stop.Limit)
+      × (whole-walk most h guest start (limit-at (fence most h guest start limit) limit) .count ≡ m)
   unfolding whole-walk fence
-  whole-stop m e = rw left-is (at-start .stop m e)
+  whole-ends m e = rw left-is (at-start .ends m e)

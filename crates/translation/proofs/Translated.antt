@@ -19,7 +19,7 @@ use Rattle.translator.specs.Translate.{Result, end-kind, end-number, accepted, 
 use Rattle.jit_arm64.proofs.Refusals.{first, refuses}
 use Rattle.jit_arm64.proofs.Fences.{no-block-with-fence}
 use Rattle.translation.specs.Demand3.{HelperFree, Demand3}
-use Rattle.translation.proofs.Fences.{whole-stop}
+use Rattle.translation.proofs.Fences.{whole-ends}
 use Rattle.translation.proofs.Whole.{demand3}
 
 offset-by : (o : ℕ) (a b : Bool) → eqb (o % 8) 0 ≡ a → ltb max-slot-offset o ≡ b → (not a || b) ≡ false → (o % 8 ≡ 0) × (o ≤ max-slot-offset)
@@ -77,5 +77,5 @@ module _ (h : Host) (pc limit : ℕ) (guest out : List ℕ) (hb : Bytes guest) (
       let a = by _ _ _ refl refl refl (rw e at (some-end (r .answer .end) k)) in
       let o = offset-by (h .«slot_offset») _ _ refl refl (a .offset) in
       let even : pc % 2 ≡ 0 = omega (arith, eqb-false (pc % 2) 1 (second (eqb limit 0) (eqb (pc % 2) 1) (first h guest pc) (a .block))) in
-      let g : W .stop ≡ Stop.Helper → ⊥ = plain-or-drop f (W .stop) (whole-stop h guest pc limit max-instrs) (rw (e, a .is) at k) in
+      let g : W .stop ≡ Stop.Helper → ⊥ = plain-or-drop f (W .stop) (λ m e. whole-ends h guest pc limit max-instrs m e .0) (rw (e, a .is) at k) in
       rw (e, a .is, front (block-of h W .code) (drop (length (block-of h W .code)) out)) (demand3 h pc limit guest hb hp even (o .1) (o .0) g)
