@@ -60,12 +60,12 @@ module _ {h : Host} {guest : List ℕ} {start limit : ℕ} {l : List ℕ} {len i
       Walks (h .«slot_offset») start (fence-walk max-instrs h guest start limit) (fence max-instrs h guest start limit) l′
       (record { len = len′; i = i′; n = n′; stop = why; fence = b })
 
-  -- what is left at the limit
-  whole : (k : ℕ) → limit ≡ n + k → in-front (v .calls) (walk h guest start k n i) ≡ whole-walk max-instrs h guest start limit
+  -- k instructions are left
+  whole : (k : ℕ) → limit ≡ n + k → walk h guest start (n + k) 0 0 ≡ whole-walk max-instrs h guest start limit
   unfolding whole-walk
   whole k e =
       let m : min limit max-instrs ≡ n + k = omega arith in
-      rw m (v .same k)
+      rw m refl
 
   -- the walk ends with the calls cs; no FENCE.I is among its instructions
   ended : (cs : List Call) {l′ : List ℕ} {len′ : ℕ} (i′ n′ : ℕ) (why : Stop)
@@ -88,7 +88,7 @@ module _ {h : Host} {guest : List ℕ} {start limit : ℕ} {l : List ℕ} {len i
   unfolding walk end-room
   at-limit q =
       let u = v .room in
-      ended [] i n Limit (whole 0 (omega arith)) none-yet bare (omega arith) (v .long) (omega arith)
+      ended [] i n Limit (v .same 0 ∙ whole 0 (omega arith)) none-yet bare (omega arith) (v .long) (omega arith)
 
   -- what was fetched at the PC
   module _ (q : n ≡ limit → ⊥) {pc : ℕ} (at : pc ≡ add start i) {r : Fetched} (found : FetchedOf (fetch pc guest (index start pc)) r) where
@@ -106,12 +106,11 @@ module _ {h : Host} {guest : List ℕ} {start limit : ℕ} {l : List ℕ} {len i
     one k = rw (here, at) (v .same (suc k))
 
     pub not-fetched : r .size ≡ 0 → Done l len i n NotFetched false
-    unfolding instr-walk end-room whole-walk
+    unfolding instr-walk end-room
     not-fetched z =
         let u = v .upto in
         let m = v .room in
-        let e : min limit max-instrs ≡ n + suc (limit - suc n) = omega (arith, left) in
-        ended [] i n NotFetched (rw e (rw (is-none _ r (found .found) z) at (one (limit - suc n)))) none-yet bare (omega arith) (v .long) (omega arith)
+        ended [] i n NotFetched (rw (is-none _ r (found .found) z) at (one (limit - suc n) ∙ whole _ left)) none-yet bare (omega arith) (v .long) (omega arith)
 
     -- an instruction
     module _ (some-bytes : r .size ≡ 0 → ⊥) where
@@ -135,10 +134,7 @@ module _ {h : Host} {guest : List ℕ} {start limit : ℕ} {l : List ℕ} {len i
       -- the same at the limit
       ends : (f : EmitFlow) → e .flow ≡ f
           → in-front (v .calls) (step f e helper (r .size) start n i (walk h guest start (limit - suc n))) ≡ whole-walk max-instrs h guest start limit
-      unfolding whole-walk
-      ends f t =
-          let m : min limit max-instrs ≡ n + suc (limit - suc n) = omega (arith, left) in
-          rw m (stepped f t (limit - suc n))
+      ends f t = stepped f t (limit - suc n) ∙ whole _ left
 
       -- the search for FENCE.I at this instruction
       searched : (k : ℕ) → cond (is-fence-i (r .instr)) (some (suc n)) (to-fence guest start k (suc n) (i + r .size)) ≡ to-fence guest start (n + suc k) 0 0
@@ -159,11 +155,11 @@ module _ {h : Host} {guest : List ℕ} {start limit : ℕ} {l : List ℕ} {len i
           rw (← ends Continue f) (ap (λ (m : ℕ). to-fence guest start m 0 0) c ∙ sym (searched (w .count - suc n)) ∙ rw q′ refl)
 
       -- an instruction behind which the Rust does not go on is no FENCE.I
-      none-here : (f : EmitFlow) → e .flow ≡ f → (f ≡ Continue → ⊥) → to-fence guest start (n + 1) 0 0 ≡ none
+      none-here : (e .flow ≡ Continue → ⊥) → to-fence guest start (n + 1) 0 0 ≡ none
       unfolding to-fence
-      none-here f t other =
+      none-here other =
           by (is-fence-i (r .instr))
-          (λ y. absurd (other (sym t ∙ ap (λ (x : Emission). x .flow) (fence-goes-on h pc (r .instr) y))))
+          (λ y. absurd (other (ap (λ (x : Emission). x .flow) (fence-goes-on h pc (r .instr) y))))
           (λ y. rw y at (sym (searched 0)))
 
       -- its words cs, appended
@@ -214,11 +210,8 @@ module _ {h : Host} {guest : List ℕ} {start limit : ℕ} {l : List ℕ} {len i
             let a = appended (e .calls) (c .holds) added (omega arith) in
             let p = a .len in
             let f : e .flow ≡ Terminate = sym (c .flow) ∙ t in
-            ended (e .calls) (i + r .size) (n + 1) Ended (rw next (ends Terminate f)) (none-here Terminate f (λ z. not-on z)) (more (e .calls) (c .holds) added (omega arith))
+            ended (e .calls) (i + r .size) (n + 1) Ended (rw next (ends Terminate f)) (none-here (λ z. let y : _≡_ {A = ℕ} 0 1 = cc in omega arith)) (more (e .calls) (c .holds) added (omega arith))
             (omega arith) (a .long) (omega arith)
-          where
-            not-on : Terminate ≡ Continue → ⊥
-            not-on z = let y : _≡_ {A = ℕ} 0 1 = cc in omega arith
 
         -- FENCE.I: the walk at its own count as the limit
         pub by-fence : out .flow ≡ Continue → is-fence-i (r .instr) ≡ true → Done l′ len′ (i + r .size) (n + 1) Limit true
@@ -257,10 +250,7 @@ module _ {h : Host} {guest : List ℕ} {start limit : ℕ} {l : List ℕ} {len i
             omega (arith, words-size (h .«slot_offset») both, helped-size (h .«slot_offset») e helper (native-size (h .«slot_offset») h pc (r .instr)) apart) in
             let a = appended both (c .holds) added w in
             let p = a .len in
-            ended both i (n + 1) Helper (rw next (rw (sym (c .flow) ∙ t) at (ends None not-inline))) (none-here None not-inline (λ z. not-on z)) (more both (c .holds) added w) (omega arith) (a .long) (omega arith)
-          where
-            not-on : None ≡ Continue → ⊥
-            not-on z = let y : _≡_ {A = ℕ} 0 1 = cc in omega arith
+            ended both i (n + 1) Helper (rw next (rw (sym (c .flow) ∙ t) at (ends None not-inline))) (none-here (λ z. let q : e .flow ≡ None = not-inline in let y : _≡_ {A = ℕ} 0 1 = cc in omega arith)) (more both (c .holds) added w) (omega arith) (a .long) (omega arith)
 
         pub uncovered : (out .flow ≡ Terminate → ⊥) → Done l′ len′ i n Uncovered false
         unfolding step end-room
