@@ -1,9 +1,8 @@
--- Document 01's marked blocks, as one list over which one fact is shown. Assumes nothing.
+-- Document 01's marked blocks, and three about FENCE.I, as one list over which one fact is shown. Assumes nothing.
 use Prim.Native.Nat.{ℕ, zero, suc, _*_, _-_}
 use mathlib.Core.Path.{_≡_, refl}
-use mathlib.Core.Bool.{false, cond}
+use mathlib.Core.Bool.{false}
 use mathlib.Core.List.{List, [], _∷_, _++_, map, flatten}
-use lib.Dec.{eqb}
 use lib.ListN.{length, replicate}
 use Rattle.a64_emitter.specs.Emitter.{bytes}
 use Rattle.a64_emitter.specs.Writers as Writers
@@ -16,12 +15,13 @@ use Rattle.jit_arm64.specs.Fence as F
 use Rattle.emit_native.specs.Calls as Calls
 use Rattle.isa.specs.Decode as Rust
 use Rattle.instr16.specs.Instr16 as I16
+use Rattle.instr32.specs.Instr32 as I32
 use Rattle.term_helper.specs.TermHelper as TH
 
 host : Host
 host = record { «slot_offset» = 0; «memory_helper» = 0x10000; helper32 = 0x20000; helper16 = 0x30000; «ignore_ebreak» = false }
 
--- the guest bytes, the limit, the PC; the words, the refusal and the count found
+-- the guest bytes, the limit, the PC; the words, the refusal, the count and the end kind's number found
 record Row : Type 0 where
   guest : List ℕ
   limit : ℕ
@@ -29,12 +29,16 @@ record Row : Type 0 where
   words : List ℕ
   refusal : ℕ
   count : ℕ
+  end : ℕ
+
+ending : ℕ → List ℕ → ℕ → ℕ → List ℕ → ℕ → Row
+ending k g l pc ws n = record { guest = g; limit = l; pc = pc; words = ws; refusal = 0; count = n; end = k }
 
 row : List ℕ → ℕ → ℕ → List ℕ → ℕ → Row
-row g l pc ws n = record { guest = g; limit = l; pc = pc; words = ws; refusal = 0; count = n }
+row = ending 1
 
 refusing : List ℕ → ℕ → ℕ → Row
-refusing g l n = record { guest = g; limit = l; pc = 0x1000; words = []; refusal = n; count = 0 }
+refusing g l n = record { guest = g; limit = l; pc = 0x1000; words = []; refusal = n; count = 0; end = 0 }
 
 nops : ℕ → List ℕ
 nops zero = []
@@ -54,6 +58,9 @@ rows =
     ∷ refusing (0x03 ∷ 0x00 ∷ []) 1 4
     ∷ refusing [] 0 2
     ∷ row (nops 65) 65 0x1000 (0xD2821000 ∷ 0xD2800801 ∷ 0xD65F03C0 ∷ []) 64
+    ∷ ending 3 (0x0F ∷ 0x10 ∷ 0x00 ∷ 0x00 ∷ 0x7D ∷ 0x55 ∷ []) 64 0x1000 (0xD2820080 ∷ 0xD2800021 ∷ 0xD65F03C0 ∷ []) 1
+    ∷ ending 3 (0x01 ∷ 0x00 ∷ 0x8F ∷ 0x9F ∷ 0xFF ∷ 0xFF ∷ []) 2 0x1000 (0xD28200C0 ∷ 0xD2800041 ∷ 0xD65F03C0 ∷ []) 2
+    ∷ row (0x0F ∷ 0x00 ∷ 0xF0 ∷ 0x0F ∷ 0x01 ∷ 0x00 ∷ []) 64 0x1000 (0xD28200C0 ∷ 0xD2800041 ∷ 0xD65F03C0 ∷ []) 2
     ∷ []
 
 -- with room for 8 words
@@ -63,16 +70,12 @@ room = replicate 32 0xEE
 found : Row → T.Result
 found r = T.translate host (r .guest) (r .pc) (r .limit) room
 
--- 1, plain, where the row is accepted: no helper or FENCE.I ends one
-kind : Row → ℕ
-kind r = cond (eqb (r .refusal) 0) 1 0
-
 -- what the paper says
 said : Row → T.Result
 said r =
-    T.result (record { refusal = r .refusal; length = 4 * length (r .words); count = r .count; end = kind r })
+    T.result (record { refusal = r .refusal; length = 4 * length (r .words); count = r .count; end = r .end })
     (bytes (r .words) ++ replicate (32 - 4 * length (r .words)) 0xEE)
 
 all-rows : map found rows ≡ map said rows
-unfolding rows row refusing nops room found kind said host B.is-missing F.fence-or F.to-fence F.fence F.limit-at T.end-kind T.end-number T.no-block T.of-block T.translate B.fetch-upper B.fetch B.emit-native B.emit-term-helper B.helped B.step B.instr-walk B.walk B.end-calls B.whole-walk B.compile-native-block Calls.words-in Calls.store-rd Rust.sign-extend Rust.imm-ci Rust.shamt Rust.imm-addi4spn Rust.imm-addi16sp Rust.imm-cj Rust.imm-cb I16.addi4spn I16.quadrant-0 I16.c-addi I16.c-addiw I16.c-li I16.c-addi16sp I16.c-lui I16.c-srli I16.c-srai I16.c-andi I16.c-alu I16.c-group I16.c-j I16.c-branch-on I16.c-branch I16.c-addi16sp-lui I16.quadrant-1 I16.c-slli I16.c-jr I16.c-mv I16.c-ebreak I16.c-jalr I16.c-add I16.c-jump-move-add I16.quadrant-2 I16.emit-native-instr16 TH.supports TH.emit-native-term-helper16 Writers.movk Writers.mov-imm64 Le.number Le.load Le.bytes Le.all-bytes W.asr flatten
+unfolding rows ending row refusing nops room found said host B.is-missing F.fence-or F.to-fence F.fence F.limit-at T.end-kind T.end-number T.no-block T.of-block T.translate B.fetch-upper B.fetch B.emit-native B.emit-term-helper B.helped B.step B.instr-walk B.walk B.end-calls B.whole-walk B.compile-native-block Calls.words-in Calls.store-rd Rust.sign-extend Rust.imm-ci Rust.shamt Rust.imm-addi4spn Rust.imm-addi16sp Rust.imm-cj Rust.imm-cb I16.addi4spn I16.quadrant-0 I16.c-addi I16.c-addiw I16.c-li I16.c-addi16sp I16.c-lui I16.c-srli I16.c-srai I16.c-andi I16.c-alu I16.c-group I16.c-j I16.c-branch-on I16.c-branch I16.c-addi16sp-lui I16.quadrant-1 I16.c-slli I16.c-jr I16.c-mv I16.c-ebreak I16.c-jalr I16.c-add I16.c-jump-move-add I16.quadrant-2 I16.emit-native-instr16 I32.misc-mem I32.emit-native-instr TH.supports TH.emit-native-term-helper16 Writers.movk Writers.mov-imm64 Le.number Le.load Le.bytes Le.all-bytes W.asr flatten
 all-rows = refl
