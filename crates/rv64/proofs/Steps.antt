@@ -115,11 +115,11 @@ module _ (w pc : ℕ) (x : List ℕ) where
   done k = made-by (D.by-class k w)
 
   -- where the opcode is none that the stepper's `match` has before it
-  pub other : (P : Type 0) → Missed P computing (w % 128) → S.Gives (S.other w (add pc 4)) (D.decode32 w) 4 pc x
+  pub other : {next : ℕ} → next ≡ add pc 4 → (P : Type 0) → Missed P computing (w % 128) → S.Gives (S.other w next) (D.decode32 w) 4 pc x
   unfolding S.other S.others S.applied exec D.decode32 D.by-class class-of
-  other P h =
+  other e P h =
       let load = below 7 Instr.Helper Effect.Helper (omega N.arith) refl in
-      let store = below 4 Instr.Helper Effect.Helper (omega N.arith) refl in (
+      let store = below 4 Instr.Helper Effect.Helper (omega N.arith) refl in rw e (
         pick-sets (eqb (w % 128) 0x03) _ _ (load .0) (pick-sets (eqb (w % 128) 0x07) _ _ (omega N.arith) (pick-sets (eqb (w % 128) 0x0F) _ _ (fence .0) (pick-sets (eqb (w % 128) 0x23) _ _ (store .0) (pick-sets (eqb (w % 128) 0x27) _ _ (omega N.arith) (pick-sets (eqb (w % 128) 0x2F) _ _ (omega N.arith) (pick-sets (eqb (w % 128) 0x73) _ _ (omega N.arith) (omega N.arith))))))),
         simp (ne-eqb _ _ (h .1), ne-eqb _ _ (h .0 .1), ne-eqb _ _ (h .0 .0 .1), ne-eqb _ _ (h .0 .0 .0 .1), ne-eqb _ _ (h .0 .0 .0 .0 .1), ne-eqb _ _ (h .0 .0 .0 .0 .0 .1), ne-eqb _ _ (h .0 .0 .0 .0 .0 .0 .1), ne-eqb _ _ (h .0 .0 .0 .0 .0 .0 .0 .1), ne-eqb _ _ (h .0 .0 .0 .0 .0 .0 .0 .0 .1))
             (either done-by done (eqb (w % 128) 0x03) (load .1) (either done-by done (eqb (w % 128) 0x07) refl (either done-by done (eqb (w % 128) 0x0F) (fence .1) (either done-by done (eqb (w % 128) 0x23) (store .1) (either done-by done (eqb (w % 128) 0x27) refl (either done-by done (eqb (w % 128) 0x2F) refl (either done-by done (eqb (w % 128) 0x73) refl refl))))))),

@@ -13,6 +13,7 @@ use Rattle.emit_native.specs.Calls.{Call, Emission}
 use Rattle.emit_native.proofs.Size.{by}
 use Rattle.jit_arm64.specs.Block.{Walk, in-front, size-of, emit-term-helper, helped, step, instr-walk, walk, whole-walk, fetch}
 use Rattle.jit_arm64.specs.Fence.{is-fence-i, fence-or, to-fence, fence, limit-at}
+use Rattle.jit_arm64.specs.Parts.{fence-walk}
 use Rattle.jit_arm64.specs.declared.block.Stop.{Stop}
 use Rattle.jit_arm64.proofs.Refusals.{walk-count}
 use Rattle.jit_arm64.proofs.Fences.{fence-wide, fence-goes-on}
@@ -124,13 +125,13 @@ module _ (h : Host) (guest : List ℕ) (start limit most : ℕ) where
   left-is : min (limit-at o limit) most ≡ at-start .left
   left-is = omega (arith, at-start .is)
 
-  pub whole-cut : whole-walk most h guest start (limit-at (fence most h guest start limit) limit) ≡ walk h guest start (cut guest start k 0) 0 0
+  pub whole-cut : fence-walk most h guest start limit ≡ walk h guest start (cut guest start k 0) 0 0
   unfolding whole-walk fence
   whole-cut = rw left-is (at-start .same)
 
   -- the block that FENCE.I ends has its own count as its limit
   pub whole-ends : (m : ℕ) → fence most h guest start limit ≡ some m
-      → (whole-walk most h guest start (limit-at (fence most h guest start limit) limit) .stop ≡ Stop.Limit)
-      × (whole-walk most h guest start (limit-at (fence most h guest start limit) limit) .count ≡ m)
+      → (fence-walk most h guest start limit .stop ≡ Stop.Limit)
+      × (fence-walk most h guest start limit .count ≡ m)
   unfolding whole-walk fence
   whole-ends m e = rw left-is (at-start .ends m e)

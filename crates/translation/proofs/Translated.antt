@@ -13,8 +13,9 @@ use Rattle.rules.specs.Limits.{max-instrs, max-slot-offset}
 use Rattle.le.specs.Le.{Bytes}
 use Rattle.emit_native.specs.declared.Host.{Host}
 use Rattle.jit_arm64.specs.declared.block.Stop.{Stop}
-use Rattle.jit_arm64.specs.Block.{Walk, whole-walk, block-of}
-use Rattle.jit_arm64.specs.Fence.{fence, limit-at}
+use Rattle.jit_arm64.specs.Block.{Walk, block-of}
+use Rattle.jit_arm64.specs.Fence.{fence}
+use Rattle.jit_arm64.specs.Parts.{fence-walk}
 use Rattle.translator.specs.Translate.{Result, end-kind, end-number, accepted, bad-slot-offset, of-block, translate}
 use Rattle.jit_arm64.proofs.Refusals.{first, refuses}
 use Rattle.jit_arm64.proofs.Fences.{no-block-with-fence}
@@ -49,7 +50,7 @@ module _ (h : Host) (pc limit : ℕ) (guest out : List ℕ) (hb : Bytes guest) (
   f = fence max-instrs h guest pc limit
 
   abbrev W : Walk
-  W = whole-walk max-instrs h guest pc (limit-at f limit)
+  W = fence-walk max-instrs h guest pc limit
 
   -- what is known where nothing is refused
   record Accepted : Type 0 where

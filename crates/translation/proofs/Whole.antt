@@ -30,6 +30,7 @@ use mathlib.Core.Option.{Option, none, some}
 use Rattle.emit_native.specs.declared.EmitFlow.{EmitFlow}
 use Rattle.jit_arm64.specs.Block.{Walk, size-of, step, instr-walk, walk, end-calls, block-calls, whole-walk, block-of}
 use Rattle.jit_arm64.specs.Fence.{fence, limit-at}
+use Rattle.jit_arm64.specs.Parts.{fence-walk}
 use Rattle.jit_arm64.proofs.Emitting.{words-append}
 use Rattle.translation.specs.Demand3.{slot, place, Entry, Ends, Demand3}
 use Rattle.translation.proofs.Registers.{tab, tab-getD, getD-tab}
@@ -113,9 +114,9 @@ beyond : (a b base : ℕ) → a % 8 ≡ 0 → b % 8 ≡ 0 → (a ≡ b → ⊥) 
 beyond a b base ha hb ne l p q = omega arith
 
 module _ (h : Host) (pc limit : ℕ) (guest : List ℕ) (hb : Bytes guest) (hp : pc < 2 ^ 64) (he : pc % 2 ≡ 0)
-    (ho : h .«slot_offset» ≤ max-slot-offset) (h8 : h .«slot_offset» % 8 ≡ 0) (free : whole-walk max-instrs h guest pc (limit-at (fence max-instrs h guest pc limit) limit) .stop ≡ Stop.Helper → ⊥) where
+    (ho : h .«slot_offset» ≤ max-slot-offset) (h8 : h .«slot_offset» % 8 ≡ 0) (free : fence-walk max-instrs h guest pc limit .stop ≡ Stop.Helper → ⊥) where
   abbrev W : Walk
-  W = whole-walk max-instrs h guest pc (limit-at (fence max-instrs h guest pc limit) limit)
+  W = fence-walk max-instrs h guest pc limit
 
   abbrev ws : List ℕ
   ws = words (h .«slot_offset») (counted W)

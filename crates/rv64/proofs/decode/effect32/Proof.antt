@@ -46,7 +46,7 @@ returns-9 c = rw (c .branch .ensures, c .before .wrapping-add-u644 .ensures, c .
 
 returns-10 : tie.Need-returns-10
 unfolding D.decode32 D.by-class class-of S.applied X.exec
-returns-10 c = rw (c .other .ensures, c .before .before .before .before .pre) (Steps.other (c .before .before .before .before .args .w) (c .before .before .before .before .args .pc) (c .before .before .before .before .args .x .now) _ (c .before .match .rest))
+returns-10 c = rw (c .other .ensures) (Steps.other (c .before .before .before .before .args .w) (c .before .before .before .before .args .pc) (c .before .before .before .before .args .x .now) (c .before .before .before .before .pre) _ (c .before .match .rest))
 
 pub effect32-spec : {M : Type 1} → statement M
 effect32-spec =
