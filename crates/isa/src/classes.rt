@@ -1,8 +1,8 @@
 // The class of each opcode, the low seven bits of a 32-bit instruction.
 ghost use mathlib.Core.Path.{_≡_};
+ghost use Prim.Native.Nat.{_≤_, _<_};
 ghost use Rattle.isa.specs.Formats.{opcode};
 ghost use Rattle.isa.specs.Classes.{class-of};
-ghost use Rattle.isa.specs.Parts.{numbered};
 
 // The opcodes of isa.rs that the translator tells apart; every other one is Other.
 pub enum Class {
@@ -25,158 +25,66 @@ pub enum Class {
     Other,
 }
 
-// The class's number at each opcode.
-const CLASSES: [u8; 128] = [
-    0,
-    0,
-    0,
-    1,
-    0,
-    0,
-    0,
-    2,
-    0,
-    0,
-    0,
-    0,
-    0,
-    0,
-    0,
-    3,
-    0,
-    0,
-    0,
-    4,
-    0,
-    0,
-    0,
-    5,
-    0,
-    0,
-    0,
-    6,
-    0,
-    0,
-    0,
-    0,
-    0,
-    0,
-    0,
-    7,
-    0,
-    0,
-    0,
-    8,
-    0,
-    0,
-    0,
-    0,
-    0,
-    0,
-    0,
-    9,
-    0,
-    0,
-    0,
-    10,
-    0,
-    0,
-    0,
-    11,
-    0,
-    0,
-    0,
-    12,
-    0,
-    0,
-    0,
-    0,
-    0,
-    0,
-    0,
-    0,
-    0,
-    0,
-    0,
-    0,
-    0,
-    0,
-    0,
-    0,
-    0,
-    0,
-    0,
-    0,
-    0,
-    0,
-    0,
-    0,
-    0,
-    0,
-    0,
-    0,
-    0,
-    0,
-    0,
-    0,
-    0,
-    0,
-    0,
-    0,
-    0,
-    0,
-    0,
-    13,
-    0,
-    0,
-    0,
-    14,
-    0,
-    0,
-    0,
-    0,
-    0,
-    0,
-    0,
-    15,
-    0,
-    0,
-    0,
-    16,
-    0,
-    0,
-    0,
-    0,
-    0,
-    0,
-    0,
-    0,
-    0,
-    0,
-    0,
-    0,
-];
+// Decisions on the number, after the rows of the ISA's opcode map, inst[6:5]. At most three opcodes to a `match`:
+// of more the compiler makes a table in read-only memory.
 
-fn numbered_class(k: u8) -> Class
-    ensures { λ r. ⌜ r ≡ numbered k ⌝ }
+// Row 00.
+fn row_00(n: u32) -> Class
+    requires { ⌜ n < 0b0100000 ⌝ }
+    ensures { λ r. ⌜ r ≡ class-of n ⌝ }
 {
-    match k {
-        1 => Class::Load,
-        2 => Class::LoadFp,
-        3 => Class::MiscMem,
-        4 => Class::OpImm,
-        5 => Class::Auipc,
-        6 => Class::OpImm32,
-        7 => Class::Store,
-        8 => Class::StoreFp,
-        9 => Class::Amo,
-        10 => Class::Op,
-        11 => Class::Lui,
-        12 => Class::Op32,
-        13 => Class::Branch,
-        14 => Class::Jalr,
-        15 => Class::Jal,
-        16 => Class::System,
+    if n < 0b0010000 {
+        return match n {
+            crate::OPCODE_LOAD => Class::Load,
+            crate::OPCODE_LOAD_FP => Class::LoadFp,
+            crate::OPCODE_MISC_MEM => Class::MiscMem,
+            _ => Class::Other,
+        };
+    }
+    match n {
+        crate::OPCODE_OP_IMM => Class::OpImm,
+        crate::OPCODE_AUIPC => Class::Auipc,
+        crate::OPCODE_OP_IMM_32 => Class::OpImm32,
+        _ => Class::Other,
+    }
+}
+
+// Row 01.
+fn row_01(n: u32) -> Class
+    requires { ⌜ (0b0100000 ≤ n) × (n < 0b1000000) ⌝ }
+    ensures { λ r. ⌜ r ≡ class-of n ⌝ }
+{
+    if n < 0b0110000 {
+        return match n {
+            crate::OPCODE_STORE => Class::Store,
+            crate::OPCODE_STORE_FP => Class::StoreFp,
+            crate::OPCODE_AMO => Class::Amo,
+            _ => Class::Other,
+        };
+    }
+    match n {
+        crate::OPCODE_OP => Class::Op,
+        crate::OPCODE_LUI => Class::Lui,
+        crate::OPCODE_OP_32 => Class::Op32,
+        _ => Class::Other,
+    }
+}
+
+// Row 11, and row 10, which has none of them.
+fn row_11(n: u32) -> Class
+    requires { ⌜ 0b1000000 ≤ n ⌝ }
+    ensures { λ r. ⌜ r ≡ class-of n ⌝ }
+{
+    if n < 0b1110000 {
+        return match n {
+            crate::OPCODE_BRANCH => Class::Branch,
+            crate::OPCODE_JALR => Class::Jalr,
+            crate::OPCODE_JAL => Class::Jal,
+            _ => Class::Other,
+        };
+    }
+    match n {
+        crate::OPCODE_SYSTEM => Class::System,
         _ => Class::Other,
     }
 }
@@ -184,6 +92,12 @@ fn numbered_class(k: u8) -> Class
 pub fn opcode_class(instr: u32) -> Class
     ensures { λ r. ⌜ r ≡ class-of (opcode instr) ⌝ }
 {
-    let n = (instr % 128) as usize;
-    numbered_class(CLASSES[n])
+    let n = instr % 128;
+    if n < 0b0100000 {
+        return row_00(n);
+    }
+    if n < 0b1000000 {
+        return row_01(n);
+    }
+    row_11(n)
 }
