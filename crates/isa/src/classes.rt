@@ -26,7 +26,7 @@ pub enum Class {
 }
 
 // Decisions on the number, after the rows of the ISA's opcode map, inst[6:5]. At most three opcodes to a `match`:
-// of more the compiler makes a table in read-only memory.
+// of more the compiler makes a table in read-only memory, which tools/readonly refuses.
 
 // Row 00.
 fn row_00(n: u32) -> Class
