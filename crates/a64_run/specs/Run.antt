@@ -3,7 +3,7 @@ use mathlib.Core.Bool.{cond, not}
 use mathlib.Core.List.{List, [], _∷_}
 use Prim.Native.Nat.{ℕ, zero, suc, _+_, _%_, _^_}
 use lib.Dec.{eqb, ltb}
-use lib.ListN.{length}
+use lib.ListN.{length, drop}
 use Rattle.rules.specs.Refusals as Refusals
 use Rattle.word.specs.Word.{wrap}
 pub use Rattle.le.specs.Le.{words}
@@ -40,7 +40,11 @@ run [] at budget k s = ran End.OffEnd k s
 run (w ∷ ws) at zero k s = ran End.Spent k s
 run (w ∷ ws) at (suc budget) k s = onward (exec (decode w) s) at k (run ws (at + 4) budget (suc k))
 
--- ---- the operation
+-- from the word of this number on, counted from 0; address: of word 0. Beyond the last there is none (document 02, No. 5)
+abbrev pub from : List ℕ → ℕ → ℕ → ℕ → State → Ran
+from block address first budget s = run (drop first (words block)) (address + 4 * first) budget 0 s
+
+-- ---- the operations
 
 abbrev pub end-number : End → ℕ
 end-number End.OffEnd = 1
@@ -56,9 +60,6 @@ at-entry s base mem = machine (s .x) (s .sp) (s .flags) base mem
 -- the state without memory
 abbrev pub registers : State → A64State
 registers s = record { x = s .x; sp = s .sp; flags = s .flags }
-
-abbrev pub whole : List ℕ → ℕ → A64State → ℕ → List ℕ → ℕ → Ran
-whole block address s budget mem base = run (words block) address budget 0 (at-entry s base mem)
 
 -- its answer, and the memory bytes afterwards
 pub record Result : Type 0 where
@@ -76,8 +77,17 @@ accepted r =
 abbrev pub refused : ℕ → A64State → Answer
 refused n s = record { refusal = n; end = 0; steps = 0; state = s }
 
-unfoldable pub a64-run : List ℕ → ℕ → A64State → ℕ → List ℕ → ℕ → Result
-a64-run block address s budget mem base =
+-- the refusals, else the run r
+unfoldable pub answered : List ℕ → A64State → List ℕ → ℕ → Ran → Result
+answered block s mem base r =
     cond (not (eqb (length block % 4) 0)) (result (refused Refusals.block-length s) mem)
     (cond (ltb (2 ^ 64) (base + length mem)) (result (refused Refusals.memory-exceeds-top s) mem)
-    (accepted (whole block address s budget mem base)))
+    (accepted r))
+
+-- A64 run: from word 0
+abbrev pub a64-run : List ℕ → ℕ → A64State → ℕ → List ℕ → ℕ → Result
+a64-run block address s budget mem base = answered block s mem base (run (words block) address budget 0 (at-entry s base mem))
+
+-- A64 run from: from the word numbered first, as after a call
+abbrev pub a64-run-from : List ℕ → ℕ → ℕ → A64State → ℕ → List ℕ → ℕ → Result
+a64-run-from block address first s budget mem base = answered block s mem base (from block address first budget (at-entry s base mem))

@@ -44,7 +44,7 @@ pub struct Rv64RunAnswer {
     pub next_pc: u64,
 }
 
-/// What `hilofanur_a64_run` answers.
+/// What `hilofanur_a64_run` and `hilofanur_a64_run_from` answer.
 #[repr(C)]
 #[derive(Clone, Copy, Debug, Default, PartialEq, Eq)]
 pub struct A64RunAnswer {
@@ -132,6 +132,17 @@ extern "C" {
         memory_length: usize,
         base: u64,
     ) -> A64RunAnswer;
+    fn hilofanur_a64_run_from(
+        block: *const u8,
+        block_length: usize,
+        address: u64,
+        first: u64,
+        state: *mut [u8; 264],
+        budget: u64,
+        memory: *mut u8,
+        memory_length: usize,
+        base: u64,
+    ) -> A64RunAnswer;
     fn hilofanur_list(
         block: *const u8,
         block_length: usize,
@@ -213,6 +224,32 @@ pub fn a64_run(
             block.as_ptr(),
             block.len(),
             address,
+            state,
+            budget,
+            memory.as_mut_ptr(),
+            memory.len(),
+            base,
+        )
+    }
+}
+
+/// A64 run from; the same, from the word numbered `first` on.
+pub fn a64_run_from(
+    block: &[u8],
+    address: u64,
+    first: u64,
+    state: &mut [u8; 264],
+    budget: u64,
+    memory: &mut [u8],
+    base: u64,
+) -> A64RunAnswer {
+    // SAFETY: as in `a64_run`.
+    unsafe {
+        hilofanur_a64_run_from(
+            block.as_ptr(),
+            block.len(),
+            address,
+            first,
             state,
             budget,
             memory.as_mut_ptr(),

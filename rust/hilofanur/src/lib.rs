@@ -193,8 +193,36 @@ pub fn a64_run(
 ) -> Result<A64Run, Refusal> {
     let mut bytes = state.to_bytes();
     let answer = boundary::a64_run(block, address, &mut bytes, budget, memory, base);
+    a64_ran(answer, &bytes, state)
+}
+
+/// A64 run from: goes on after a call, from a state that the caller gives, at the word of `block` numbered `first`, counted
+/// from 0. At or beyond the number of words it ends as off the end. `address` is that of word 0; the steps count from 0.
+///
+/// # Errors
+/// Refusals 10 and 11.
+pub fn a64_run_from(
+    block: &[u8],
+    address: u64,
+    first: u64,
+    state: &mut A64State,
+    budget: u64,
+    memory: &mut [u8],
+    base: u64,
+) -> Result<A64Run, Refusal> {
+    let mut bytes = state.to_bytes();
+    let answer = boundary::a64_run_from(block, address, first, &mut bytes, budget, memory, base);
+    a64_ran(answer, &bytes, state)
+}
+
+/// What a run answered, with the state that it left in `bytes`.
+fn a64_ran(
+    answer: boundary::A64RunAnswer,
+    bytes: &[u8; 264],
+    state: &mut A64State,
+) -> Result<A64Run, Refusal> {
     accepted(answer.refusal)?;
-    *state = A64State::from_bytes(&bytes);
+    *state = A64State::from_bytes(bytes);
     let end = End::from_number(answer.end).expect("the library ends a run as 1 to 6");
     Ok(A64Run { end, steps: answer.steps })
 }

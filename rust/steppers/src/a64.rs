@@ -43,6 +43,19 @@ pub fn a64_run(
     memory: &mut [u8],
     base: u64,
 ) -> A64Answer {
+    a64_run_from(block, address, 0, state, budget, memory, base)
+}
+
+/// Runs the block from the word numbered `first` on; `address` is still that of word 0.
+pub fn a64_run_from(
+    block: &[u8],
+    address: u64,
+    first: u64,
+    state: &mut A64State,
+    budget: u64,
+    memory: &mut [u8],
+    base: u64,
+) -> A64Answer {
     let (words, rest) = block.as_chunks::<4>();
     if !rest.is_empty() {
         return A64Answer { refusal: 10, end: 0, steps: 0 };
@@ -52,9 +65,11 @@ pub fn a64_run(
     }
 
     state.nzcv &= 15;
+    let left = usize::try_from(first).ok().and_then(|first| words.get(first..)).unwrap_or_default();
+    let address = address.wrapping_add(first.wrapping_mul(4));
     let mut steps = 0;
     let mut end = OFF_THE_END;
-    for word in words {
+    for word in left {
         if steps == budget {
             end = SPENT;
             break;

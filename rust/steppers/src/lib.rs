@@ -10,7 +10,8 @@ pub mod records;
 mod rv64;
 
 pub use a64::{
-    a64_run, A64Answer, A64State, CALLED, FAULT, OFF_THE_END, RETURNED, SPENT, UNREADABLE,
+    a64_run, a64_run_from, A64Answer, A64State, CALLED, FAULT, OFF_THE_END, RETURNED, SPENT,
+    UNREADABLE,
 };
 pub use index_model::{Block, IndexModel, Key, Placed};
 pub use index_plain::{Found, PlainIndex};
