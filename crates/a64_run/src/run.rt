@@ -1,4 +1,4 @@
-// The run of a block's words, and the operation A64 run.
+// The run of a block's words, and the operations A64 run and A64 run from.
 ghost use mathlib.Core.Path.{_≡_};
 ghost use Prim.Native.Nat.{_+_, _*_, _^_, _≤_};
 ghost use lib.Dec.{ltb};
@@ -75,28 +75,29 @@ fn ended(end: End, steps: u64, state: A64State) -> Ran
     Ran { end, steps, state }
 }
 
-// Runs the block's words from the first until one ends the run.
+// Runs the block's words from the one numbered `first` until one ends the run.
 fn run_words(
     block: &[u8],
     address: u64,
+    first: u64,
     state: A64State,
     budget: u64,
     memory: &mut [u8],
     base: u64,
 ) -> Ran
-    ensures { λ r. ⌜ A64.ran (r .end) (r .steps) (A64.at-entry (r .state) base (now (memory .exit))) ≡ A64.whole (now (block .entry)) address state budget (now (memory .entry)) base ⌝ }
+    ensures { λ r. ⌜ A64.ran (r .end) (r .steps) (A64.at-entry (r .state) base (now (memory .exit))) ≡ A64.from (now (block .entry)) address first budget (A64.at-entry state base (now (memory .entry))) ⌝ }
 {
-    let count = block.len() / 4;
+    let count = (block.len() / 4) as u64;
     let mut at = state;
-    let mut i = 0;
+    let mut i = first;
+    let mut k = 0;
     while i < count {
-        let k = i as u64;
         if k == budget {
             return ended(End::Spent, k, at);
         }
         let sp = at.sp;
         let flags = at.flags;
-        let r = step(&mut at.x, sp, flags, block, i, memory, base);
+        let r = step(&mut at.x, sp, flags, block, i as usize, memory, base);
         let flags = r.flags;
         at.sp = r.sp;
         at.flags = flags;
@@ -107,13 +108,14 @@ fn run_words(
             Outcome::Unreadable => return ended(End::Unreadable, k, at),
             Outcome::Return => return ended(End::Returned, k + 1, at),
             Outcome::Call => {
-                at.x[30] = std::num::wrapping_add_u64(address, 4 * k + 4);
+                at.x[30] = std::num::wrapping_add_u64(address, 4 * i + 4);
                 return ended(End::Called, k + 1, at);
             }
         }
         i += 1;
+        k += 1;
     }
-    ended(End::OffEnd, i as u64, at)
+    ended(End::OffEnd, k, at)
 }
 
 // Whether `len` bytes from `base` on end beyond 2^64.
@@ -140,7 +142,37 @@ fn refused(n: u32, state: A64State) -> Answer
     }
 }
 
-// A64 run (document 01): the words of `block` at `address`, from word 0, with `memory` from `base` on.
+// A64 run from (document 02, No. 5): the words of `block` at `address`, from the one numbered `first`, with `memory` from `base` on.
+pub fn a64_run_from(
+    block: &[u8],
+    address: u64,
+    first: u64,
+    state: A64State,
+    budget: u64,
+    memory: &mut [u8],
+    base: u64,
+) -> Answer
+    ensures { λ r. ⌜ A64.result r (now (memory .exit)) ≡ A64.a64-run-from (now (block .entry)) address first state budget (now (memory .entry)) base ⌝ }
+{
+    if block.len() % 4 != 0 {
+        return refused(refusals::BLOCK_LENGTH, state);
+    }
+    let past = beyond(base, memory.len() as u64);
+    if past {
+        return refused(refusals::MEMORY_EXCEEDS_TOP, state);
+    }
+    let ran = run_words(block, address, first, state, budget, memory, base);
+    let after = ran.state;
+    let end = ran.end;
+    Answer {
+        refusal: 0,
+        end: end_number(end),
+        steps: ran.steps,
+        state: after,
+    }
+}
+
+// A64 run (document 01): from word 0.
 pub fn a64_run(
     block: &[u8],
     address: u64,
@@ -151,20 +183,5 @@ pub fn a64_run(
 ) -> Answer
     ensures { λ r. ⌜ A64.result r (now (memory .exit)) ≡ A64.a64-run (now (block .entry)) address state budget (now (memory .entry)) base ⌝ }
 {
-    if block.len() % 4 != 0 {
-        return refused(refusals::BLOCK_LENGTH, state);
-    }
-    let past = beyond(base, memory.len() as u64);
-    if past {
-        return refused(refusals::MEMORY_EXCEEDS_TOP, state);
-    }
-    let ran = run_words(block, address, state, budget, memory, base);
-    let after = ran.state;
-    let end = ran.end;
-    Answer {
-        refusal: 0,
-        end: end_number(end),
-        steps: ran.steps,
-        state: after,
-    }
+    a64_run_from(block, address, 0, state, budget, memory, base)
 }

@@ -4,23 +4,22 @@ use native.Mathlib.Numerals.{add-one}
 use Prim.Native.Nat.{_-_}
 use lib.ListN.{length}
 use Rattle.a64_exec.specs.Exec.{machine}
-use Rattle.le.specs.Le.{words}
-use Rattle.a64_run.specs.Run.{run, onward}
+use Rattle.a64_run.specs.Run.{onward, from}
 use Rattle.a64_run.proofs.RunLaws.{Running, start, off-end, spent, ended, onto}
 use Rattle.a64_run.proofs.run.run_words.Statement.{statement}
 use Rattle.a64_run.proofs.run.run_words.Tie as tie
 
 -- what is left of the run ends as the whole does
 abbrev Inv-loop : tie.InvT-loop
-Inv-loop block address budget memory₀ base count at₀ i₀ memory at i =
-    Running (run (words block) address budget 0 (machine (at₀ .x) (at₀ .sp) (at₀ .flags) base memory₀)) block address budget base count (length memory₀)
-    (at .x) (at .sp) (at .flags) memory i
+Inv-loop block address first budget memory₀ base count at₀ i₀ k₀ memory at i k =
+    Running (from block address first budget (machine (at₀ .x) (at₀ .sp) (at₀ .flags) base memory₀)) block address budget base count (length memory₀)
+    (at .x) (at .sp) (at .flags) memory i k
 
 abbrev μ-loop : tie.MeasureT-loop
-μ-loop block address budget memory₀ base count at₀ i₀ memory at i = count - i
+μ-loop block address first budget memory₀ base count at₀ i₀ k₀ memory at i k = count - i
 
 loop-holds : tie.Need-loop-holds Inv-loop μ-loop
-loop-holds c = let a = c .before .before .args in start (a .block .now) (a .address) (a .budget) (a .base) (a .state .x) (a .state .sp) (a .state .flags) (a .memory .now) (search needs)
+loop-holds c = let a = c .before .before .args in start (a .block .now) (a .address) (a .first) (a .budget) (a .base) (a .state .x) (a .state .sp) (a .state .flags) (a .memory .now) (search needs)
 
 returns : tie.Need-returns Inv-loop μ-loop
 returns c = rw (c .ended .ensures .0, c .ended .ensures .1, c .ended .ensures .2) (spent (c .before .before .before .loop .inv) (c .before .before .loop-test .taken) (c .before .if1 .taken))
@@ -81,6 +80,7 @@ run-words-spec =
     (λ c κs. search needs)
     (λ c. search needs)
     returns-5
+    (λ c. search needs)
     (λ c. search needs)
     (λ c. search needs)
     loop-again
