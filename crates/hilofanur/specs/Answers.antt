@@ -65,7 +65,7 @@ place-of p = place-result (record { refusal = p .answer .refusal; start = p .ans
 abbrev pub place : List ℕ → ℕ → List ℕ → PlaceResult
 place store used code = place-of (P.place store used code)
 
--- ---- A64 run: the answer, the state's bytes and the memory's
+-- ---- A64 run and A64 run from: the answer, the state's bytes and the memory's
 
 pub record A64Result : Type 0 where
   pub answer : A64RunAnswer
@@ -83,6 +83,9 @@ a64-of state r =
 
 abbrev pub a64-run : List ℕ → ℕ → List ℕ → ℕ → List ℕ → ℕ → A64Result
 a64-run block address state budget mem base = a64-of state (A64.a64-run block address (a64-state state) budget mem base)
+
+abbrev pub a64-run-from : List ℕ → ℕ → ℕ → List ℕ → ℕ → List ℕ → ℕ → A64Result
+a64-run-from block address first state budget mem base = a64-of state (A64.a64-run-from block address first (a64-state state) budget mem base)
 
 -- ---- RV64 run: the answer, and the registers' bytes
 

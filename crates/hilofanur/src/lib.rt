@@ -122,8 +122,24 @@ pub extern "C" fn hilofanur_a64_run(
 ) -> A64RunAnswer
     ensures { λ r. ⌜ Answers.a64-result r (now (state .exit)) (now (memory .exit)) ≡ Answers.a64-run (now (block .entry)) address (now (state .entry)) budget (now (memory .entry)) base ⌝ }
 {
+    hilofanur_a64_run_from(block, address, 0, state, budget, memory, base)
+}
+
+// first: the number of the word to begin at, counted from 0; address stays that of word 0.
+#[no_mangle]
+pub extern "C" fn hilofanur_a64_run_from(
+    block: &[u8],
+    address: u64,
+    first: u64,
+    state: &mut [u8; 264],
+    budget: u64,
+    memory: &mut [u8],
+    base: u64,
+) -> A64RunAnswer
+    ensures { λ r. ⌜ Answers.a64-result r (now (state .exit)) (now (memory .exit)) ≡ Answers.a64-run-from (now (block .entry)) address first (now (state .entry)) budget (now (memory .entry)) base ⌝ }
+{
     let before = a64_state::from_bytes(state);
-    let answer = a64_run::run::a64_run(block, address, before, budget, memory, base);
+    let answer = a64_run::run::a64_run_from(block, address, first, before, budget, memory, base);
     let refusal = answer.refusal;
     if refusal != 0 {
         return A64RunAnswer {
