@@ -5,8 +5,8 @@ use lib.Pow.{mod-pow-add, shr-shr}
 use mathlib.Core.Path.{_≡_, refl, ap, _∙_}
 use Rattle.word.specs.Word.{sext}
 use Rattle.word.proofs.Extend.{by-shifts}
-use Rattle.isa.specs.Formats.{i-imm, b-imm, u-imm, j-imm, ciw-imm, ci-imm, ci16-imm, cj-imm, cb-imm, shamt-c, inst}
-use Rattle.isa.specs.Parts.{s-imm, decoded}
+use Rattle.isa.specs.Formats.{i-imm, s-imm, b-imm, u-imm, j-imm, ciw-imm, ci-imm, ci16-imm, cj-imm, cb-imm, shamt-c, inst}
+use Rattle.isa.specs.Parts.{decoded}
 use Rattle.isa.specs.Decode.{sign-extend, imm-i, imm-s, imm-b, imm-u, imm-j, imm-ci, shamt, imm-addi4spn, imm-addi16sp, imm-cj, imm-cb, decode32, bit}
 
 sign-extends : (val bits : ℕ) → 1 ≤ bits → bits ≤ 64 → sign-extend val bits ≡ sext bits val

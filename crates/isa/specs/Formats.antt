@@ -32,6 +32,9 @@ funct7 w = inst 31 25 w
 abbrev pub i-imm : ℕ → ℕ
 i-imm w = sext 12 (inst 31 20 w)
 
+abbrev pub s-imm : ℕ → ℕ
+s-imm w = sext 12 (inst 31 25 w * 2 ^ 5 + inst 11 7 w)
+
 abbrev pub b-imm : ℕ → ℕ
 b-imm w = sext 13 (inst 31 31 w * 2 ^ 12 + inst 7 7 w * 2 ^ 11 + inst 30 25 w * 2 ^ 5 + inst 11 8 w * 2 ^ 1)
 

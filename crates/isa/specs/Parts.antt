@@ -1,10 +1,9 @@
 -- What the functions of this crate promise one another; no operation's contract reaches it.
-use Prim.Native.Nat.{ℕ, _+_, _*_, _^_}
-use Rattle.word.specs.Word.{sext}
+use Prim.Native.Nat.{ℕ}
 use Rattle.isa.specs.declared.decode.Decoded32.{Decoded32}
 use Rattle.isa.specs.Formats.{inst, opcode, rd, funct3, rs1, rs2, funct7}
 
--- ---- fields and immediates of a word, beside those of Formats
+-- ---- fields of a word, beside those of Formats
 
 -- of the atomics
 abbrev pub funct5 : ℕ → ℕ
@@ -27,7 +26,3 @@ decoded w =
       funct5 = funct5 w;
       imm12 = imm12 w;
     }
-
--- the S-type's immediate
-abbrev pub s-imm : ℕ → ℕ
-s-imm w = sext 12 (inst 31 25 w * 2 ^ 5 + inst 11 7 w)

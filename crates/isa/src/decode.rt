@@ -2,8 +2,8 @@
 ghost use mathlib.Core.Path.{_≡_};
 ghost use Prim.Native.Nat.{_≤_};
 ghost use Rattle.word.specs.Word.{sext};
-ghost use Rattle.isa.specs.Formats.{i-imm, b-imm, u-imm, j-imm, ciw-imm, ci-imm, ci16-imm, cj-imm, cb-imm, shamt-c};
-ghost use Rattle.isa.specs.Parts.{decoded, s-imm};
+ghost use Rattle.isa.specs.Formats.{i-imm, s-imm, b-imm, u-imm, j-imm, ciw-imm, ci-imm, ci16-imm, cj-imm, cb-imm, shamt-c};
+ghost use Rattle.isa.specs.Parts.{decoded};
 
 pub struct Decoded32 {
     pub opcode: u8,
