@@ -25,6 +25,7 @@ use Rattle.a64_exec.specs.Exec.{State, machine, address, reaches, next, exec}
 use Rattle.a64_alu.specs.Alu.{op-value, compared, holds}
 use Rattle.a64_run.proofs.Straight.{Straight, straight-append, one-form}
 use Rattle.a64_exec.proofs.Slots.{Apart, Slots, slot-stored}
+use Rattle.a64_emitter.specs.Writers as Writers
 use Rattle.emit_native.specs.Calls.{Call, emit, mov-imm64, load, store, reg-off, rust, call-words, words-in, words}
 use Rattle.translation.proofs.Registers.{upd, tab, length-tab, set-tab, operand-tab}
 use Rattle.translation.proofs.Constants.{constant-goes}
@@ -43,7 +44,7 @@ model r f s = record { r = r; f = f; slots = s }
 abbrev pub operand : Model → ℕ → ℕ
 operand v k = cond (eqb k 31) 0 (v .r k)
 
-abbrev result : Model → ℕ → ℕ → Model
+abbrev pub result : Model → ℕ → ℕ → Model
 result v d w = model (upd (v .r) d w) (v .f) (v .slots)
 
 unfoldable pub form-step : Form → Model → Model
@@ -73,10 +74,10 @@ unfolding call-step
 calls-run [] v = v
 calls-run (c ∷ cs) v = calls-run cs (call-step c v)
 
--- ---- which calls: those that write X0, X1 and X9 to X17 alone. b: X0 still holds the base of the slots
+-- ---- which calls: those that write X0 and X9 to X17 alone. b: X0 still holds the base of the slots
 
 unfoldable pub scratch : ℕ → Bool
-scratch d = (eqb d 0 || eqb d 1) || (leb 9 d && leb d 17)
+scratch d = eqb d 0 || (leb 9 d && leb d 17)
 
 unfoldable pub form-fits : Form → Bool
 unfolding scratch
@@ -204,14 +205,13 @@ operand-lt v h k = cond-lt (eqb k 31) (omega arith) (h k)
 
 scratch-lt : (d : ℕ) → T (scratch d) → d < 31
 unfolding scratch
-scratch-lt d t = by (eqb d 0) (eqb d 1) (leb 9 d) (leb d 17) refl refl refl t
+scratch-lt d t = by (eqb d 0) (leb 9 d) (leb d 17) refl refl t
   where
-    by : (a b c e : Bool) → eqb d 0 ≡ a → eqb d 1 ≡ b → leb d 17 ≡ e → T ((a || b) || (c && e)) → d < 31
-    by true b c e p q r t = omega (arith, eqb-true d 0 p)
-    by false true c e p q r t = omega (arith, eqb-true d 1 q)
-    by false false true true p q r t = omega (arith, leb-true d 17 r)
-    by false false true false p q r t = absurd t
-    by false false false e p q r t = absurd t
+    by : (a b c : Bool) → eqb d 0 ≡ a → leb d 17 ≡ c → T (a || (b && c)) → d < 31
+    by true b c p q t = omega (arith, eqb-true d 0 p)
+    by false true true p q t = omega (arith, leb-true d 17 q)
+    by false true false p q t = absurd t
+    by false false c p q t = absurd t
 
 -- a write to a register
 module _ (r₀ : ℕ → ℕ) (b : Bool) (v : Model) (κ : Kept r₀ b v) (d w : ℕ) (hd : T (scratch d)) (hw : w < 2 ^ 64) where
@@ -288,6 +288,12 @@ calls-kept r₀ (c ∷ cs) b v t h κ =
 abbrev pub real : ℕ → ℕ → Model → List ℕ → State
 real base sp v m = machine (tab 31 (v .r)) sp (v .f) base m
 
+-- a constant, in any register
+pub constant-real : (base sp : ℕ) (v : Model) (m : List ℕ) (d c : ℕ) → d < 31 → c < 2 ^ 64
+    → Straight (Writers.mov-imm64 d c) (real base sp v m) (real base sp (result v d c) m)
+constant-real base sp v m d c hd hc =
+    rw (← set-tab 31 (v .r) d c) (constant-goes (real base sp v m) d hd (rw (length-tab 31 (v .r)) hd) c hc)
+
 -- from v to u over the words
 abbrev pub Goes : (ℕ → ℕ) → List ℕ → ℕ → ℕ → List ℕ → Model → List ℕ → Model → Type 0
 Goes p m₀ base sp ws v m u = (m′ : List ℕ) × Straight ws (real base sp v m) (real base sp u m′) × Slots p m₀ m′ (u .slots)
@@ -360,9 +366,7 @@ module _ (p : ℕ → ℕ) (m₀ : List ℕ) (base sp o : ℕ) (r₀ : ℕ → �
       → Goes p m₀ base sp (call-words rust o c) v m (call-step c v)
   unfolding fits call-step
   call-goes b (emit w) v m t h κ s = (m, (real base sp (form-step (decode w) v) m, form-goes (decode w) v m t, refl), rw (form-slots (decode w) v) s)
-  call-goes b (mov-imm64 d c) v m t h κ s =
-      let hd : d < 31 = scratch-lt d t in
-      (m, rw (← set-tab 31 (v .r) d c) (constant-goes (real base sp v m) d hd (rw (length-tab 31 (v .r)) hd) c h), s)
+  call-goes b (mov-imm64 d c) v m t h κ s = (m, constant-real base sp v m d c (scratch-lt d t) h, s)
   call-goes true (load d n) v m t h κ s =
       let hd : d < 31 = scratch-lt d (and-l (scratch d) true t) in (
         m,

@@ -32,7 +32,7 @@ cut guest start (suc left) i = suc (behind (fetch (add start i) guest i) (λ (si
 pub narrow : (w : ℕ) → eqb (w % 4) 3 ≡ false → is-fence-i w ≡ false
 narrow w h = by (is-fence-i w) (λ f. absurd (true≢false (rw (fence-wide w f) at h))) (λ f. f)
 
-never : {A : Type 0} (m : ℕ) → _≡_ {A = Option ℕ} none (some m) → A
+pub never : {A : Type 0} (m : ℕ) → _≡_ {A = Option ℕ} none (some m) → A
 never m e = let z : _≡_ {A = ℕ} 0 1 = cc in absurd (omega arith)
 
 pub helped-most : (f : EmitFlow) (cs : List Call) (n pc : ℕ) → helped f cs n pc .count ≤ suc n

@@ -32,7 +32,7 @@ unfolding calls-run
 run-append [] ds v = refl
 run-append (c ∷ cs) ds v = run-append cs ds (call-step c v)
 
-keep-append : (b : Bool) (cs ds : List Call) → all-keep b (cs ++ ds) ≡ all-keep (all-keep b cs) ds
+pub keep-append : (b : Bool) (cs ds : List Call) → all-keep b (cs ++ ds) ≡ all-keep (all-keep b cs) ds
 unfolding all-keep
 keep-append b [] ds = refl
 keep-append b (c ∷ cs) ds = keep-append (keeps b c) cs ds
