@@ -168,7 +168,7 @@ pub is-true : (b : Bool) → T b → b ≡ true
 is-true true t = refl
 is-true false t = absurd t
 
-cond-lt : (b : Bool) {x y m : ℕ} → x < m → y < m → cond b x y < m
+pub cond-lt : (b : Bool) {x y m : ℕ} → x < m → y < m → cond b x y < m
 cond-lt true hx hy = hx
 cond-lt false hx hy = hy
 

@@ -15,4 +15,5 @@ pub mod Blocks
 pub mod Calling
 pub mod Entering
 pub mod Whole
+pub mod Called
 pub mod Translated

@@ -4,6 +4,7 @@ use mathlib.Core.List.{List, [], _∷_, map, flatten}
 use Prim.Native.Nat.{ℕ, _^_, _≤_, _<_}
 use native.Mathlib.Omega.{arith}
 use lib.Bits.{or-zero-r}
+use lib.Dec.{eqb}
 use borrow.Author.Tests.{ne-eqb}
 use Rattle.a64.specs.declared.Op.the-variants.{Orr}
 use Rattle.a64.specs.declared.Form.the-variants.{DataProcessing}
@@ -13,7 +14,7 @@ use Rattle.a64_emitter.specs.Writers.{mov-x}
 use Rattle.a64_run.proofs.Straight.{Straight, straight-append, one-form}
 use Rattle.emit_native.specs.Calls.{Call, emit, mov-imm64, rust, call-words, words-in, words}
 use Rattle.translation.proofs.Registers.{upd, set-tab, operand-tab}
-use Rattle.translation.proofs.Calls.{Model, model, real, constant-real}
+use Rattle.translation.proofs.Calls.{Model, model, cond-lt, real, constant-real}
 
 pub data Move : Type 0 where
   from : ℕ → ℕ → Move
@@ -48,6 +49,15 @@ pub moves-high : (cs : List Move) (r : ℕ → ℕ) (k : ℕ) → Moves cs → 1
 moves-high [] r k h hk = refl
 moves-high (from d n ∷ cs) r k h hk = moves-high cs (moved (from d n) r) k (h .2) hk ∙ other d k r (r n) (h .0) hk
 moves-high (constant d c ∷ cs) r k h hk = moves-high cs (moved (constant d c) r) k (h .2) hk ∙ other d k r c (h .0) hk
+
+-- registers of 64 bits
+put-small : (d c : ℕ) (r : ℕ → ℕ) → c < 2 ^ 64 → ((k : ℕ) → r k < 2 ^ 64) → (k : ℕ) → upd r d c k < 2 ^ 64
+put-small d c r hc h k = cond-lt (eqb k d) hc (h k)
+
+pub moves-small : (cs : List Move) (r : ℕ → ℕ) → Moves cs → ((k : ℕ) → r k < 2 ^ 64) → (k : ℕ) → all-moved cs r k < 2 ^ 64
+moves-small [] r i h k = h k
+moves-small (from d n ∷ cs) r i h k = moves-small cs (moved (from d n) r) (i .2) (put-small d (r n) r (h n) h) k
+moves-small (constant d c ∷ cs) r i h k = moves-small cs (moved (constant d c) r) (i .2) (put-small d c r (i .1) h) k
 
 module _ (base sp o : ℕ) (m : List ℕ) where
   move-goes : (v : Model) (d n : ℕ) → d < 18 → n < 31

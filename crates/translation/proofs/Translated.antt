@@ -1,4 +1,4 @@
--- Demand 3 for what translation answers. Assumes nothing.
+-- Demand 3, and document 02, No. 5, for what translation answers. Assumes nothing.
 use mathlib.Core.Path.{_≡_, refl, sym, ap, _∙_}
 use mathlib.Core.Logic.{inl, inr}
 use mathlib.Core.Option.{Option, none, some}
@@ -20,8 +20,10 @@ use Rattle.translator.specs.Translate.{Result, end-kind, end-number, accepted, 
 use Rattle.jit_arm64.proofs.Refusals.{first, refuses}
 use Rattle.jit_arm64.proofs.Fences.{no-block-with-fence}
 use Rattle.translation.specs.Demand3.{HelperFree, Demand3}
+use Rattle.translation.specs.HelperBlock.{HelperEnded, HelperBlock}
 use Rattle.translation.proofs.Fences.{whole-ends}
 use Rattle.translation.proofs.Whole.{demand3}
+use Rattle.translation.proofs.Called.{helper-block}
 
 offset-by : (o : ℕ) (a b : Bool) → eqb (o % 8) 0 ≡ a → ltb max-slot-offset o ≡ b → (not a || b) ≡ false → (o % 8 ≡ 0) × (o ≤ max-slot-offset)
 offset-by o true false p q h = (eqb-true (o % 8) 0 p, ltb-false max-slot-offset o q)
@@ -44,6 +46,16 @@ unfolding end-number end-kind
 plain-or-drop none why at (inl p) e = omega (arith, rw e at p)
 plain-or-drop none why at (inr p) e = omega (arith, rw e at p)
 plain-or-drop (some m) why at p e = let x : Stop.Limit ≡ Stop.Helper = sym (at m refl) ∙ e in let z : _≡_ {A = ℕ} 0 1 = cc in omega arith
+
+-- kind 2: a helper ended it
+helper-only : (f : Option ℕ) (why : Stop) → HelperEnded (end-number (end-kind f why)) → why ≡ Stop.Helper
+unfolding end-number end-kind
+helper-only none Stop.Helper p = refl
+helper-only none Stop.Limit p = absurd (omega arith)
+helper-only none Stop.Ended p = absurd (omega arith)
+helper-only none Stop.Uncovered p = absurd (omega arith)
+helper-only none Stop.NotFetched p = absurd (omega arith)
+helper-only (some m) why p = absurd (omega arith)
 
 module _ (h : Host) (pc limit : ℕ) (guest out : List ℕ) (hb : Bytes guest) (hp : pc < 2 ^ 64) where
   abbrev f : Option ℕ
@@ -71,12 +83,40 @@ module _ (h : Host) (pc limit : ℕ) (guest out : List ℕ) (hb : Bytes guest) (
   some-end n (inl p) z = omega arith
   some-end n (inr p) z = omega arith
 
+  helper-end : (n : ℕ) → HelperEnded n → n ≡ 0 → ⊥
+  unfolding end-number
+  helper-end n p z = omega arith
+
+  -- the block that translation answers
+  module _ (r : Result) (e : r ≡ translate h guest pc limit out) (z : r .answer .end ≡ 0 → ⊥) where
+    a : Accepted
+    a = by _ _ _ refl refl refl (rw e at z)
+
+    offset : (h .«slot_offset» % 8 ≡ 0) × (h .«slot_offset» ≤ max-slot-offset)
+    offset = offset-by (h .«slot_offset») _ _ refl refl (a .offset)
+
+    even : pc % 2 ≡ 0
+    even = omega (arith, eqb-false (pc % 2) 1 (second (eqb limit 0) (eqb (pc % 2) 1) (first h guest pc) (a .block)))
+
+    r-is : r ≡ accepted (block-of h W) (end-kind f (W .stop)) out
+    r-is = e ∙ a .is
+
+    code : take (r .answer .length) (r .output) ≡ block-of h W .code
+    code = rw r-is (front (block-of h W .code) (drop (length (block-of h W .code)) out))
+
   -- demand 3 for what translation answers, where the end kind is plain or drop
   pub translated : (r : Result) → r ≡ translate h guest pc limit out → HelperFree (r .answer .end)
       → Demand3 guest pc limit (h .«ignore_ebreak») (h .«slot_offset») (take (r .answer .length) (r .output)) (r .answer .count)
   translated r e k =
-      let a = by _ _ _ refl refl refl (rw e at (some-end (r .answer .end) k)) in
-      let o = offset-by (h .«slot_offset») _ _ refl refl (a .offset) in
-      let even : pc % 2 ≡ 0 = omega (arith, eqb-false (pc % 2) 1 (second (eqb limit 0) (eqb (pc % 2) 1) (first h guest pc) (a .block))) in
-      let g : W .stop ≡ Stop.Helper → ⊥ = plain-or-drop f (W .stop) (λ m e. whole-ends h guest pc limit max-instrs m e .0) (rw (e, a .is) at k) in
-      rw (e, a .is, front (block-of h W .code) (drop (length (block-of h W .code)) out)) (demand3 h pc limit guest hb hp even (o .1) (o .0) g)
+      let z = some-end (r .answer .end) k in
+      let g : W .stop ≡ Stop.Helper → ⊥ = plain-or-drop f (W .stop) (λ m e. whole-ends h guest pc limit max-instrs m e .0) (rw (r-is r e z) at k) in
+      rw (code r e z, r-is r e z) (demand3 h pc limit guest hb hp (even r e z) (offset r e z .1) (offset r e z .0) g)
+
+  -- document 02, No. 5, where it is helper
+  pub translated-helper : h .«memory_helper» < 2 ^ 64 → h .helper32 < 2 ^ 64 → h .helper16 < 2 ^ 64 → length guest < 2 ^ 64
+      → (r : Result) → r ≡ translate h guest pc limit out → HelperEnded (r .answer .end)
+      → HelperBlock h guest pc limit (take (r .answer .length) (r .output)) (r .answer .count)
+  translated-helper hm h32 h16 hl r e k =
+      let z : r .answer .end ≡ 0 → ⊥ = λ q. helper-end (r .answer .end) k q in
+      let g : W .stop ≡ Stop.Helper = helper-only f (W .stop) (rw (r-is r e z) at k) in
+      rw (code r e z, r-is r e z) (helper-block h hm h32 h16 pc limit guest hb hl hp (even r e z) (offset r e z .1) (offset r e z .0) g)
