@@ -58,6 +58,11 @@ fn stores() {
     let whole = as_recorded(&[], CENTROID);
     let blocks = numbers(&whole, "blocks: ")[0];
     let run = numbers(&whole, "run: ");
+    let [returned, behind, loads, stores, _] = numbers(&whole, "stops: ")[..] else {
+        panic!("{whole:?}")
+    };
+    assert_eq!((returned, behind), (run[0], loads + stores));
+    assert!(loads >= 1_000 && stores >= 100, "{loads} loads, {stores} stores");
     assert_eq!(numbers(&whole, "index: "), [blocks, run[0] - blocks, 0]);
     for (store, least) in [(8_192, 10), (1_024, 1_000), (LONGEST, 5_000)] {
         let lines = as_recorded(&["--store", &store.to_string()], CENTROID);

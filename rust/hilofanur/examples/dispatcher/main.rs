@@ -10,20 +10,23 @@
 //! A guest that changes its code executes FENCE.I, which ends a block: that block is run but not placed, and the index is
 //! emptied. With --keep it is not emptied, only to show what comes of it: blocks of the old code are run, and the comparison,
 //! which reads the guest's code anew, tells of them.
-//! A block that ends in a helper instruction runs up to its call; the dispatcher compares the call's arguments,
-//! does the load or store itself and goes on at the next PC with a new block, so the words behind the call stay unused.
+//! A block that ends in a helper instruction runs up to its call; the dispatcher compares the call's arguments, does the load
+//! or store as a helper would, and lets the block go on behind the call to its return, which it compares too.
 //! ECALL ends a block too: `write` (64) is served, `exit` (93) ends the program, and so does EBREAK.
 
 mod code;
+mod compare;
+mod helper;
 mod host;
 mod image;
 mod memory;
 
 use code::{Code, OnFence};
+use compare::instruction;
 use hilofanur::{list, Block, EndKind, Guest, Refusal, Registers};
-use host::{instruction, Done, HostSide};
+use host::{Done, HostSide, Running};
 use image::Image;
-use memory::{Access, Memory};
+use memory::Memory;
 use std::path::Path;
 use std::process::ExitCode;
 
@@ -47,8 +50,9 @@ struct Counts {
     runs: u64,
     instructions: u64,
     words: u64,
-    /// Blocks that returned, and those that called for a load or a store.
+    /// Blocks that returned, and how many of them behind a call; helpers' loads and stores.
     returned: u64,
+    behind: u64,
     loads: u64,
     stores: u64,
     ecalls: u64,
@@ -92,10 +96,12 @@ impl Dispatcher {
             let guest = Guest { bytes: &bytes, pc: self.pc, limit: LIMIT, ignore_ebreak: false };
             match self.code.block(&guest) {
                 Ok(ready) => {
-                    let words = self.code.words(&ready);
-                    self.tell(ready.new, words.0)?;
-                    let done = self.host.run(&guest, ready.count, words, &self.registers)?;
-                    self.take(&guest, ready.count, done)?;
+                    let (words, address) = self.code.words(&ready);
+                    self.tell(ready.new, words)?;
+                    let (guest, count) = (&guest, ready.count);
+                    let block = Running { guest, count, words, address };
+                    let done = self.host.run(&block, &self.registers, &mut self.memory)?;
+                    self.take(count, done)?;
                 }
                 Err(Refusal::NotCovered) => match self.system(instruction(&guest, self.pc))? {
                     Flow::Next => self.pc = self.pc.wrapping_add(4),
@@ -122,8 +128,8 @@ impl Dispatcher {
         Ok(())
     }
 
-    /// Takes over what a block did, and does the helper's instruction behind it.
-    fn take(&mut self, guest: &Guest, count: u32, done: Done) -> Result<(), String> {
+    /// Takes over what a block did.
+    fn take(&mut self, count: u32, done: Done) -> Result<(), String> {
         self.registers = done.registers;
         self.pc = done.pc;
         for difference in &done.differences {
@@ -134,27 +140,14 @@ impl Dispatcher {
         counts.instructions += u64::from(count);
         counts.words += done.steps;
         counts.differences += done.differences.len() as u64;
+        counts.returned += u64::from(done.returned);
         if counts.runs.is_multiple_of(OFTEN) {
             let Counts { runs, instructions, differences, .. } = counts;
             println!("  {runs} blocks run, {instructions} instructions, {differences} differences");
         }
-        if done.called {
-            return self.serve(instruction(guest, self.pc));
-        }
-        counts.returned += 1;
-        Ok(())
-    }
-
-    /// Does the load or store at the PC.
-    fn serve(&mut self, instr: u32) -> Result<(), String> {
-        let error = |text: &str| format!("{instr:x} at {:x}: {text}", self.pc);
-        let access = Access::decode(instr, &self.registers).ok_or(error("not served"))?;
-        access.serve(&mut self.memory, &mut self.registers).map_err(|text| error(&text))?;
-        self.pc = self.pc.wrapping_add(access.length);
-        if access.store {
-            self.counts.stores += 1;
-        } else {
-            self.counts.loads += 1;
+        if let Some(access) = done.helper.transpose()? {
+            counts.behind += u64::from(done.returned);
+            *(if access.store { &mut counts.stores } else { &mut counts.loads }) += 1;
         }
         Ok(())
     }
@@ -177,16 +170,15 @@ impl Dispatcher {
     }
 
     fn summary(&self) {
-        let Counts { runs, instructions, words, returned, loads, stores, ecalls, differences } =
-            self.counts;
-        let called = loads + stores;
+        let Counts { runs, instructions, words, differences, .. } = self.counts;
+        let Counts { returned, behind, loads, stores, ecalls, .. } = self.counts;
         let Code { translated, placed, found, fences, emptied, .. } = self.code;
         println!("blocks: {translated} translated into {} words", self.code.words);
         println!("index: {placed} placed, {found} found, {} dropped", self.code.dropped());
         println!("fences: {fences}, which emptied the index of {emptied} blocks");
         println!("run: {runs} blocks, {instructions} guest instructions, {words} A64 words");
         println!(
-            "stops: {returned} returned, {called} called ({loads} loads, {stores} stores), {ecalls} ecall"
+            "stops: {returned} returned, {behind} of them behind a call ({loads} loads, {stores} stores), {ecalls} ecall"
         );
         println!("differences: {differences}");
     }

@@ -67,7 +67,7 @@ impl Access {
     /// C.LW, C.LD, C.SW, C.SD, and the same four from the stack.
     fn decode16(i: u32, x: &[u64; 32]) -> Option<Access> {
         let (double, store) = (i >> 13 & 1 == 1, i >> 15 == 1);
-        if i >> 14 & 1 == 0 {
+        if i >> 14 & 1 == 0 || i & 3 == 1 {
             return None;
         }
         let upper = i >> 10 & 7; // bits 12 to 10
@@ -98,6 +98,17 @@ impl Access {
     /// The memory helper's number for it: MEM_OP_*.
     pub fn operation(&self) -> u64 {
         u64::from(self.funct3) + if self.store { 16 } else { 0 }
+    }
+
+    /// The access that the memory helper's arguments tell: operation, rd, value, address.
+    pub fn from_arguments([operation, rd, value, address]: [u64; 4]) -> Option<Access> {
+        let (funct3, store) = match operation {
+            0..=6 => (operation as u32, false),
+            16..=19 => (operation as u32 - 16, true),
+            _ => return None,
+        };
+        let rd = usize::try_from(rd).ok().filter(|&rd| rd < 32)?;
+        Some(Access { funct3, store, rd, value, address, length: 4 })
     }
 
     /// Does it.
@@ -156,9 +167,26 @@ mod tests {
         for (instr, expected) in cases {
             assert_eq!(Access::decode(instr, &registers()), Some(expected), "{instr:x}");
         }
-        // amoadd.w, fld, c.fld
-        for instr in [0x00B5_252F, 0x0005_3507, 0x2108] {
+        // amoadd.w, fld, c.fld, c.li
+        for instr in [0x00B5_252F, 0x0005_3507, 0x2108, 0x557D] {
             assert_eq!(Access::decode(instr, &registers()), None, "{instr:x}");
+        }
+    }
+
+    /// Every operation there and back, and those that there are not.
+    #[test]
+    fn arguments() {
+        for operation in 0..32 {
+            let arguments = [operation, 31, 5, 0x1000];
+            let access = Access::from_arguments(arguments);
+            assert_eq!(access.is_some(), operation < 7 || (16..20).contains(&operation));
+            if let Some(a) = access {
+                assert_eq!([a.operation(), a.rd as u64, a.value, a.address], arguments);
+                assert_eq!((a.store, a.length), (operation >= 16, 4));
+            }
+        }
+        for (operation, rd) in [(1 << 32, 0), (!0, 0), (0, 32), (0, !0)] {
+            assert_eq!(Access::from_arguments([operation, rd, 0, 0]), None);
         }
     }
 
