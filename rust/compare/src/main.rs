@@ -2,6 +2,7 @@
 
 mod a64;
 mod blocks;
+mod helpers;
 mod index;
 mod listing;
 mod place;
@@ -13,7 +14,7 @@ use draw::{Case, Random};
 use hilofanur::{Guest, Host};
 use std::time::{Duration, Instant};
 
-const USE: &str = "use: compare [soak] COUNT [SEED]";
+const USE: &str = "use: compare [soak | ROW] COUNT [SEED]";
 /// How many differences are printed.
 const SHOWN: u64 = 10;
 
@@ -26,6 +27,10 @@ trait Compared {
     const ENOUGH: u64 = 10_000;
     /// One case: its outcome, or what differs.
     fn compare(&mut self, random: &mut Random) -> Result<usize, String>;
+    /// What else must have been met, and was not.
+    fn missed(&self) -> Vec<String> {
+        Vec::new()
+    }
 }
 
 /// The question as the library takes it.
@@ -38,8 +43,20 @@ fn question(case: &Case) -> (Guest<'_>, Host) {
     )
 }
 
-/// Compares `count` cases, with a line of progress now and then. True if none differs.
-fn run<T: Compared + Default>(count: u64, seed: u64) -> bool {
+/// Which rows, how many cases each, and their seed.
+struct Asked {
+    /// The one of this name, or every row.
+    row: Option<String>,
+    count: u64,
+    seed: u64,
+}
+
+/// Compares the cases, with a line of progress now and then. True if none differs; nothing if the row is not asked for.
+fn run<T: Compared + Default>(asked: &Asked) -> Option<bool> {
+    if asked.row.as_ref().is_some_and(|row| row != T::NAME) {
+        return None;
+    }
+    let &Asked { count, seed, .. } = asked;
     let (mut operation, mut random) = (T::default(), Random(seed));
     let mut met = vec![0u64; T::OUTCOMES.len()];
     let mut differences = 0;
@@ -62,42 +79,61 @@ fn run<T: Compared + Default>(count: u64, seed: u64) -> bool {
     let outcomes: Vec<String> =
         T::OUTCOMES.iter().zip(&met).map(|(name, number)| format!("{name} {number}")).collect();
     println!("{}: {}", T::NAME, outcomes.join(", "));
-    let missed = count >= T::ENOUGH && met.contains(&0);
-    if missed {
-        println!("{}: an outcome was never met", T::NAME);
+    let missed = if count >= T::ENOUGH { missed(&operation, &met) } else { Vec::new() };
+    if !missed.is_empty() {
+        println!("{}: never met: {}", T::NAME, missed.join(", "));
     }
     println!("{}: {count} cases, differences {differences}", T::NAME);
-    differences == 0 && !missed
+    Some(differences == 0 && missed.is_empty())
 }
 
-/// Every row; true if nothing differs.
-fn rows(count: u64, seed: u64) -> bool {
-    let same = [
-        run::<translate::Translate>(count, seed),
-        run::<place::Place>(count, seed),
-        run::<rv64::Rv64>(count, seed),
-        run::<a64::A64>(count, seed),
-        run::<listing::Listing>(count, seed),
-        run::<index::Index>(count, seed),
-        run::<blocks::Blocks>(count, seed),
+/// The outcomes that were not met, and what else the row misses.
+fn missed<T: Compared>(operation: &T, met: &[u64]) -> Vec<String> {
+    let outcomes = T::OUTCOMES.iter().zip(met).filter(|(_, &met)| met == 0);
+    let mut missed: Vec<String> = outcomes.map(|(name, _)| name.to_string()).collect();
+    missed.extend(operation.missed());
+    missed
+}
+
+/// The rows that are asked for, if there are any; true if nothing differs.
+fn rows(asked: &Asked) -> Option<bool> {
+    let rows = [
+        run::<translate::Translate>(asked),
+        run::<place::Place>(asked),
+        run::<rv64::Rv64>(asked),
+        run::<a64::A64>(asked),
+        run::<listing::Listing>(asked),
+        run::<index::Index>(asked),
+        run::<blocks::Blocks>(asked),
+        run::<helpers::Helpers>(asked),
     ];
-    !same.contains(&false)
+    let same: Vec<bool> = rows.into_iter().flatten().collect();
+    (!same.is_empty()).then_some(!same.contains(&false))
+}
+
+/// What the arguments ask for: a row's name or `soak`, a number of cases, a seed.
+fn asked() -> Option<Asked> {
+    let mut arguments = std::env::args().skip(1).peekable();
+    let row = arguments.next_if(|argument| argument.parse::<u64>().is_err());
+    let numbers: Option<Vec<u64>> = arguments.map(|argument| argument.parse().ok()).collect();
+    match numbers.as_deref() {
+        Some(&[count]) => Some(Asked { row, count, seed: 1 }),
+        Some(&[count, seed]) => Some(Asked { row, count, seed }),
+        _ => None,
+    }
 }
 
 fn main() {
-    let mut arguments = std::env::args().skip(1).peekable();
-    let soaks = arguments.next_if(|argument| argument == "soak").is_some();
-    let numbers: Option<Vec<u64>> = arguments.map(|argument| argument.parse().ok()).collect();
-    let (count, seed) = match numbers.as_deref() {
-        Some([count]) => (*count, 1),
-        Some([count, seed]) => (*count, *seed),
-        _ => {
+    let same = asked().and_then(|asked| match asked.row.as_deref() {
+        Some("soak") => Some(soak::soak(asked.count, asked.seed)),
+        _ => rows(&asked),
+    });
+    std::process::exit(match same {
+        Some(true) => 0,
+        Some(false) => 1,
+        None => {
             eprintln!("{USE}");
-            std::process::exit(2)
+            2
         }
-    };
-    let same = if soaks { soak::soak(count, seed) } else { rows(count, seed) };
-    if !same {
-        std::process::exit(1)
-    }
+    })
 }

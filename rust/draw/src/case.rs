@@ -1,5 +1,6 @@
 //! Questions to Translate.
 
+use crate::forms::HELPER_KINDS;
 use crate::guest::Guests;
 use crate::{marked, Random, LONGEST};
 
@@ -82,6 +83,40 @@ impl Guests {
     }
 }
 
+/// A question to Translate whose block a helper's instruction ends.
+#[derive(Clone, Debug)]
+pub struct HelperCase {
+    pub case: Case,
+    /// The instruction's place in HELPER_KINDS.
+    pub kind: usize,
+    /// The number of the instructions before it, and of their bytes.
+    pub prefix: usize,
+    pub at: usize,
+}
+
+impl Guests {
+    /// Each kind as often, behind 0 to 63 instructions; the limit just reaches it or is higher.
+    pub fn helper_case(&self, random: &mut Random) -> HelperCase {
+        let kind = random.below(HELPER_KINDS.len());
+        let prefix = match random.below(16) {
+            0 => 63,
+            1 => 56 + random.below(8),
+            2 => random.below(64),
+            3..=6 => 0,
+            _ => 1 + random.below(8),
+        };
+        let ignore_ebreak = random.below(2) == 0;
+        let (guest, at) = self.helped(random, prefix, HELPER_KINDS[kind].1, ignore_ebreak);
+        let count = prefix as u32 + 1;
+        let limit = random.pick(&[count, count, count, count + 1, 64, 65, 256, u32::MAX]);
+        let mut case = Case { limit, ignore_ebreak, ..Case::draw(random, guest) };
+        if random.below(4) == 0 {
+            case.pc = (2 * random.below(200) as u64).wrapping_sub(200);
+        }
+        HelperCase { case, kind, prefix, at }
+    }
+}
+
 /// The output bytes offered for a block of so many: as many, a few more, or what the longest needs.
 pub fn enough(random: &mut Random, length: usize) -> usize {
     match random.below(3) {
@@ -155,6 +190,29 @@ mod tests {
         let behind =
             first(&case.guest[at..], false).is_some_and(|(class, _)| class == Class::FenceI);
         (classes, behind)
+    }
+
+    /// A helper's instruction ends each of these, where it is said to stand; every prefix and PCs across 2^64 are among them.
+    #[test]
+    fn helper_cases() {
+        let (guests, mut random) = (Guests::default(), Random(1));
+        let (mut prefixes, mut exact, mut across) = ([0; 64], 0, 0);
+        for _ in 0..20_000 {
+            let HelperCase { case, kind, prefix, at } = guests.helper_case(&mut random);
+            let (classes, _) = walk(&case);
+            let expected = [vec![Class::Next; prefix], vec![Class::Helper]].concat();
+            assert_eq!(classes, expected, "{case:x?}");
+            assert!(prefix < case.limit as usize);
+            let (value, fixed) = HELPER_KINDS[kind].1;
+            let instr = u16::from_le_bytes(*case.guest[at..].first_chunk().unwrap());
+            let low = fixed & 0xffff;
+            assert_eq!(u32::from(instr) & low, value & low, "{case:x?} at {at}");
+            prefixes[prefix] += 1;
+            exact += (case.limit as usize == prefix + 1) as usize;
+            across += (case.pc.wrapping_add(at as u64) < case.pc) as usize;
+        }
+        assert!(prefixes.iter().all(|&number| number >= 5), "{prefixes:?}");
+        assert!(exact >= 5_000 && across >= 100, "{exact} {across}");
     }
 
     /// Of the blocks that refusals 2, 4 and 5 leave, FENCE.I ends about one in eight, and it stands where the list has it.

@@ -78,6 +78,32 @@ pub fn helper() -> Vec<Form> {
     forms
 }
 
+/// Rule 4's instructions by kind, with the manual's names for those of 16 bits.
+pub const HELPER_KINDS: [(&str, Form); 22] = [
+    ("LB", (0x0003, 0x707f)),
+    ("LH", (0x1003, 0x707f)),
+    ("LW", (0x2003, 0x707f)),
+    ("LD", (0x3003, 0x707f)),
+    ("LBU", (0x4003, 0x707f)),
+    ("LHU", (0x5003, 0x707f)),
+    ("LWU", (0x6003, 0x707f)),
+    ("SB", (0x0023, 0x707f)),
+    ("SH", (0x1023, 0x707f)),
+    ("SW", (0x2023, 0x707f)),
+    ("SD", (0x3023, 0x707f)),
+    ("FP load", (0x07, 0x7f)),
+    ("FP store", (0x27, 0x7f)),
+    ("AMO", (0x2f, 0x7f)),
+    ("C.LW", (0x4000, 0xe003)),
+    ("C.LD", (0x6000, 0xe003)),
+    ("C.SW", (0xc000, 0xe003)),
+    ("C.SD", (0xe000, 0xe003)),
+    ("C.LWSP", (0x4002, 0xe003)),
+    ("C.LDSP", (0x6002, 0xe003)),
+    ("C.SWSP", (0xc002, 0xe003)),
+    ("C.SDSP", (0xe002, 0xe003)),
+];
+
 /// Rule 7's forms: uncovered, with scratch words.
 pub const LEFTOVER: [Form; 26] = [
     (0x0400_0033, 0xfe00_007f),

@@ -25,11 +25,28 @@ pub fn instruction(random: &mut Random, form: Form) -> Vec<u8> {
     bytes(encode(form, free))
 }
 
+/// A helper's instruction of the form; of 32 bits now and then with an immediate at an edge, rs1 or rs2 0.
+fn helper_instruction(random: &mut Random, form: Form) -> Vec<u8> {
+    let mut instr = instruction(random, form);
+    let edge: u32 = random.pick(&[0, 1, 0x7ff, 0x800, 0xfff]);
+    let (fields, values) = match random.below(8) {
+        0 => (0xfff << 20, edge << 20),
+        1 => (0x7f << 25 | 31 << 7, edge >> 5 << 25 | (edge & 31) << 7),
+        2 => (31 << 15, 0),
+        3 => (31 << 20, 0),
+        _ => (0, 0),
+    };
+    if let Some(word) = instr.first_chunk_mut() {
+        *word = (u32::from_le_bytes(*word) & !fields | values).to_le_bytes();
+    }
+    instr
+}
+
 /// Draws until an instruction is of one of the classes.
-fn of_class(classes: &[Class], mut draw: impl FnMut() -> Vec<u8>) -> Vec<u8> {
+fn of_class(classes: &[Class], ignore_ebreak: bool, mut draw: impl FnMut() -> Vec<u8>) -> Vec<u8> {
     loop {
         let instr = draw();
-        if first(&instr, false).is_some_and(|(found, _)| classes.contains(&found)) {
+        if first(&instr, ignore_ebreak).is_some_and(|(found, _)| classes.contains(&found)) {
             return instr;
         }
     }
@@ -37,7 +54,7 @@ fn of_class(classes: &[Class], mut draw: impl FnMut() -> Vec<u8>) -> Vec<u8> {
 
 /// An instruction after which the Rust's block goes on: FENCE.I is one.
 pub fn next_instruction(random: &mut Random, forms: &[Form]) -> Vec<u8> {
-    of_class(&[Class::Next, Class::FenceI], || {
+    of_class(&[Class::Next, Class::FenceI], false, || {
         let form = random.pick(forms);
         instruction(random, form)
     })
@@ -120,9 +137,38 @@ impl Guests {
         guest
     }
 
+    /// An inline instruction after which a block goes on.
+    fn next(&self, random: &mut Random, ignore_ebreak: bool) -> Vec<u8> {
+        of_class(&[Class::Next], ignore_ebreak, || {
+            let form = random.pick(&self.inline);
+            instruction(random, form)
+        })
+    }
+
+    /// `many` inline instructions after which a block goes on, at times one `many` times; then a helper's of the form, and at
+    /// times any bytes. Where the helper's begins.
+    pub fn helped(
+        &self,
+        random: &mut Random,
+        many: usize,
+        form: Form,
+        ignore_ebreak: bool,
+    ) -> (Vec<u8>, usize) {
+        let mut guest = match random.below(8) {
+            0 => self.next(random, ignore_ebreak).repeat(many),
+            _ => (0..many).flat_map(|_| self.next(random, ignore_ebreak)).collect(),
+        };
+        let at = guest.len();
+        guest.extend(helper_instruction(random, form));
+        if random.below(2) == 0 {
+            guest.extend(random.bytes_below(9));
+        }
+        (guest, at)
+    }
+
     /// An inline instruction of the class, its fields anywhere.
     fn plain(&self, random: &mut Random, class: Class) -> Vec<u8> {
-        of_class(&[class], || {
+        of_class(&[class], false, || {
             let form = random.pick(&self.inline);
             bytes(encode(form, random.next() as u32))
         })
@@ -158,6 +204,7 @@ impl Guests {
 #[cfg(test)]
 mod tests {
     use super::*;
+    use crate::forms::HELPER_KINDS;
 
     /// The classes of the whole guest's instructions.
     fn classes(guest: &[u8]) -> Vec<Class> {
@@ -179,6 +226,33 @@ mod tests {
             assert_eq!(classes(&block), until(Class::Ends));
             let fenced = guests.plain_fenced(&mut random, length);
             assert_eq!(classes(&fenced), [until(Class::FenceI), until(Class::Ends)].concat());
+        }
+    }
+
+    /// Each kind is its own, and all of them together are rule 4's forms.
+    #[test]
+    fn helpers_of_every_kind() {
+        let mut random = Random(1);
+        let kind = |instr: &[u8]| {
+            let size = if instr[0] & 3 == 3 { 4 } else { 2 };
+            let number = instr[..size].iter().rev().fold(0, |n, &byte| n << 8 | u32::from(byte));
+            let is = |&(_, (value, fixed)): &(_, Form)| number & fixed == value;
+            let found: Vec<usize> =
+                (0..HELPER_KINDS.len()).filter(|&kind| is(&HELPER_KINDS[kind])).collect();
+            assert_eq!((found.len(), instr.len()), (1, size), "{instr:x?}");
+            found[0]
+        };
+        let mut met = [false; HELPER_KINDS.len()];
+        for form in forms::helper() {
+            (0..100).for_each(|_| met[kind(&instruction(&mut random, form))] = true);
+        }
+        assert_eq!(met, [true; HELPER_KINDS.len()]);
+        for (number, (_, form)) in HELPER_KINDS.into_iter().enumerate() {
+            for _ in 0..1_000 {
+                let instr = helper_instruction(&mut random, form);
+                assert_eq!(kind(&instr), number);
+                assert_eq!(classes(&instr), [Class::Helper]);
+            }
         }
     }
 }
