@@ -28,9 +28,9 @@ pub fn help(
     let mut registers = machine.slots();
     access.serve(memory, &mut registers)?;
     let saved = machine.state.sp.wrapping_sub(BASE) as usize;
-    for (at, byte) in machine.memory.iter_mut().enumerate() {
-        if at.wrapping_sub(saved) >= 8 {
-            *byte = random.next() as u8;
+    for (n, eight) in machine.memory.as_chunks_mut().0.iter_mut().enumerate() {
+        if 8 * n != saved {
+            *eight = random.next().to_le_bytes();
         }
     }
     machine.memory[SLOTS].copy_from_slice(&registers.to_bytes());
