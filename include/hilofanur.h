@@ -26,18 +26,29 @@
  * call, no state is kept between calls, and every call ends. Translate takes 12 KB of stack, the others 1 KB.
  *
  * How a block is called, on an Arm processor or by A64 run: from word 0, with X30 the address to return to and X0 such
- * that register n has its slot, eight little-endian bytes, at X0 plus slot_offset plus 8n, a multiple of 8. Slot 0 holds 0.
- * It returns by RET with X0 the next guest PC and X1 the guest instructions done; the slots hold the registers.
- * X9 to X17 and NZCV are lost; X2 to X8, X18 to X30, SP and all other memory are as they were.
+ * that register n has its slot, eight little-endian bytes, at X0 plus slot_offset plus 8n, a multiple of 8. The slots are
+ * in memory and apart from the block's words; slot 0 holds 0.
  *
- * A block that a helper ends calls it by BLR X16. SP is a multiple of 16, and the 16 bytes below it are the block's. The
- * helper finds the slots with the registers before its instruction, and:
+ * A block that no helper ends returns by RET with X0 the next guest PC and X1 the guest instructions done; the slots hold
+ * the registers. X9 to X17 and NZCV are lost; X2 to X8, X18 to X30, SP and all other memory are as they were.
+ *
+ * A block that a helper ends calls it by BLR X16. At its entry SP is a multiple of 16, and the 16 bytes below SP (modulo
+ * 2^64, so SP may be 0) are in memory and apart from the slots and the block's words. The helper finds the slots with the
+ * registers before its instruction, and:
  *   memory helper:     X0 to X2 what the caller had in X1 to X3, X3 the operation (0 to 6: LB LH LW LD LBU LHU LWU, 16 to
  *                      19: SB SH SW SD), X4 bits 11 to 7 of the instruction (rd), X5 the value to store or 0, X6 the
  *                      address, X7 the instruction's PC
  *   the other helpers: X0 to X4 what the caller had in X1 to X5, X5 the instruction, X6 its PC
- * It returns to X30 with X0 the next guest PC and X1 the instructions that it did; the block adds those before it to X1. It
- * leaves SP, and the eight bytes at SP, where the caller's X30 is kept, as it found them.
+ *   each helper:       X16 its own address, SP 16 lower than at the block's entry, the eight bytes at SP the X30 of that
+ *                      entry, X30 the address of the word behind the call; X18 to X29, and all memory outside the slots
+ *                      and those 16 bytes, as at that entry
+ * It may change X0 to X30, NZCV, and all memory but the eight bytes at SP and the block's words. It leaves these and SP as
+ * it found them, and returns to the address that it found in X30, with X0 the next guest PC and X1 the guest instructions
+ * that it did. Then the block returns with X0 the helper's X0, X1 the helper's X1 plus the block's count less one, modulo
+ * 2^64, SP and X30 as at the block's entry, memory and X18 to X29 as the helper left them; X2 to X17 and NZCV are lost.
+ *
+ * By A64 run such a block ends as HILOFANUR_CALLED with `steps` words done. After the helper's work, which the caller does
+ * on state and memory, hilofanur_a64_run_from with first = steps goes on.
  */
 #ifndef HILOFANUR_H
 #define HILOFANUR_H
@@ -130,12 +141,21 @@ struct hilofanur_a64_run_answer {
 
 /* A64 run: does the words of block, which stand at address, as the Arm manual says, at most budget of them.
  *
- * state: HILOFANUR_STATE bytes, each number little-endian; of NZCV the low four bits, N highest. memory: bytes, the
- * first at base. Refusals 10 and 11.
+ * state: HILOFANUR_STATE bytes, each number little-endian; of NZCV the low four bits, N highest; higher bits are ignored
+ * and come out 0. memory: bytes, the first at base. Refusals 10 and 11.
  */
 struct hilofanur_a64_run_answer hilofanur_a64_run(
     const uint8_t *block, size_t block_length, uint64_t address, uint8_t *state, uint64_t budget, uint8_t *memory,
     size_t memory_length, uint64_t base);
+
+/* A64 run from: goes on after a call, from the state that the caller gives, at the word numbered first, counted from 0.
+ *
+ * address stays that of word 0; steps counts from 0, the words of this call. Where first is at or beyond the number of
+ * words it ends off the end with no step, whatever the budget. All else as in A64 run. Refusals 10 and 11, whatever first.
+ */
+struct hilofanur_a64_run_answer hilofanur_a64_run_from(
+    const uint8_t *block, size_t block_length, uint64_t address, uint64_t first, uint8_t *state, uint64_t budget,
+    uint8_t *memory, size_t memory_length, uint64_t base);
 
 struct hilofanur_list_answer {
     uint64_t refusal;

@@ -233,7 +233,7 @@ pub fn a64_run(
     }
 }
 
-/// A64 run from; the same, from the word numbered `first` on.
+/// A64 run from; as `a64_run`, at the word numbered `first`.
 pub fn a64_run_from(
     block: &[u8],
     address: u64,

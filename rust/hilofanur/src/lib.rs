@@ -1,7 +1,7 @@
 //! RV64 guest blocks in, A64 words out: the proved library behind a safe interface.
 //!
-//! Translate, place and the two runs are document 01's, the listing and the index are document 02's. Each operation is
-//! accepted, or refused by number with every lent byte unchanged.
+//! Translate, place and the two runs are document 01's; the listing, the index and the way to go on after a call are
+//! document 02's. Each operation is accepted, or refused by number with every lent byte unchanged.
 //!
 //! ```
 //! use hilofanur::{a64_run, list, place, rv64_run, translate};
@@ -43,16 +43,56 @@
 //! ```
 //!
 //! How a block is called, on an Arm processor or by [`a64_run`]: from word 0, with X30 the address to return to and X0 such
-//! that register n has its slot, eight little-endian bytes, at X0 plus the slot offset plus 8n, a multiple of 8. Slot 0 holds
-//! 0. It returns by RET with X0 the next guest PC and X1 the guest instructions done; the slots hold the registers. X9 to
-//! X17 and NZCV are lost; X2 to X8, X18 to X30, SP and all other memory are as they were.
+//! that register n has its slot, eight little-endian bytes, at X0 plus the slot offset plus 8n, a multiple of 8. The slots
+//! are in memory and apart from the block's words; slot 0 holds 0.
 //!
-//! A block that a helper ends calls it by BLR X16, with SP, a multiple of 16, lowered by 16 bytes in which the caller's
-//! X30 is kept. The memory helper gets in X0 to X2 what the caller had in X1 to X3, in X3 the operation (0 to 6: LB, LH,
+//! A block that no helper ends returns by RET with X0 the next guest PC and X1 the guest instructions done; the slots hold
+//! the registers. X9 to X17 and NZCV are lost; X2 to X8, X18 to X30, SP and all other memory are as they were.
+//!
+//! A block that a helper ends calls it by BLR X16. At its entry SP is a multiple of 16, and the 16 bytes below SP, modulo
+//! 2^64, are in memory and apart from the slots and the block's words. The helper finds the slots with the registers before
+//! its instruction. The memory helper gets in X0 to X2 what the caller had in X1 to X3, in X3 the operation (0 to 6: LB, LH,
 //! LW, LD, LBU, LHU, LWU; 16 to 19: SB, SH, SW, SD), in X4 rd, in X5 the value to store or 0, in X6 the address, in X7 the
-//! instruction's PC; the others get in X0 to X4 what the caller had in X1 to X5, in X5 the instruction, in X6 its PC. A
-//! helper returns to X30 with X0 the next guest PC and X1 the instructions that it did, to which the block adds those before
-//! it; it leaves SP and the eight bytes at SP as it found them.
+//! instruction's PC; the others get in X0 to X4 what the caller had in X1 to X5, in X5 the instruction, in X6 its PC. SP is
+//! 16 lower than at entry, the eight bytes at SP hold the X30 of entry, X30 is the address of the word behind the call; X18
+//! to X29 and all memory outside the slots and those 16 bytes are as at entry.
+//!
+//! A helper leaves SP, the eight bytes at SP and the block's words as it found them; all else it may change. It returns to
+//! the X30 that it found, with X0 the next guest PC and X1 the instructions that it did. The block then returns with that
+//! X0, with that X1 plus the block's count less one, modulo 2^64, SP and X30 as at entry, memory and X18 to X29 as the
+//! helper left them; X2 to X17 and NZCV are lost. [`a64_run`] ends such a block as [`End::Called`]; the caller does the
+//! helper's work, and [`a64_run_from`] goes on:
+//!
+//! ```
+//! use hilofanur::{a64_run, a64_run_from, translate, A64State, End, EndKind, Guest, Host, Refusal};
+//!
+//! // c.nop, then ld x10, 8(x11)
+//! let bytes = [0x01, 0x00, 0x03, 0xb5, 0x85, 0x00];
+//! let guest = Guest { bytes: &bytes, pc: 0x1000, limit: 64, ignore_ebreak: false };
+//! let host = Host { slot_offset: 0, memory_helper: 0x10000, helper32: 0x20000, helper16: 0x30000 };
+//! let mut output = [0; hilofanur::LONGEST_BLOCK];
+//! let block = translate(&guest, &host, &mut output)?;
+//! assert_eq!((block.count, block.end), (2, EndKind::Helper));
+//! let words = &output[..block.length];
+//!
+//! // Memory is the slots, of which x11's holds 0x2000, and the 16 bytes below SP.
+//! let mut memory = [0; 256 + 16];
+//! memory[8 * 11..8 * 12].copy_from_slice(&0x2000_u64.to_le_bytes());
+//! let mut state = A64State { sp: 0x8110, ..A64State::default() };
+//! (state.x[0], state.x[30]) = (0x8000, 0x5555);
+//! let run = a64_run(words, 0x4_0000, &mut state, 100, &mut memory, 0x8000)?;
+//! assert_eq!((run.end, state.x[16], state.sp), (End::Called, 0x10000, 0x8100));
+//! // LD into x10, no value, the address, the PC.
+//! assert_eq!(state.x[3..8], [3, 10, 0, 0x2008, 0x1002]);
+//!
+//! // The helper's work: what is loaded goes into x10's slot; the next PC, one instruction done.
+//! memory[8 * 10..8 * 11].copy_from_slice(&77_u64.to_le_bytes());
+//! (state.x[0], state.x[1]) = (0x1006, 1);
+//! let run = a64_run_from(words, 0x4_0000, run.steps, &mut state, 100, &mut memory, 0x8000)?;
+//! assert_eq!((run.end, state.x[0], state.x[1]), (End::Returned, 0x1006, 2));
+//! assert_eq!((state.sp, state.x[30]), (0x8110, 0x5555));
+//! # Ok::<(), Refusal>(())
+//! ```
 //!
 //! [`translate`] takes 12 KB of stack, the others 1 KB.
 
@@ -196,11 +236,12 @@ pub fn a64_run(
     a64_ran(answer, &bytes, state)
 }
 
-/// A64 run from: goes on after a call, from a state that the caller gives, at the word of `block` numbered `first`, counted
-/// from 0. At or beyond the number of words it ends as off the end. `address` is that of word 0; the steps count from 0.
+/// A64 run from: goes on after a call, from the state that the caller gives, at the word of `block` numbered `first`,
+/// counted from 0. `address` stays that of word 0; the steps count from 0. Where `first` is at or beyond the number of
+/// words it ends as [`End::OffTheEnd`] with no step, whatever the budget.
 ///
 /// # Errors
-/// Refusals 10 and 11.
+/// Refusals 10 and 11, whatever `first`.
 pub fn a64_run_from(
     block: &[u8],
     address: u64,

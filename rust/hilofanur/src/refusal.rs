@@ -34,9 +34,9 @@ pub enum Refusal {
     CodeExceedsStore = 8,
     /// RV64 run: register 0 is not zero.
     RegisterZero = 9,
-    /// A64 run: the block length is not a multiple of 4.
+    /// A64 run, from any word: the block length is not a multiple of 4.
     BlockLength = 10,
-    /// A64 run: the memory base plus the memory length exceeds 2^64.
+    /// A64 run, from any word: the memory base plus the memory length exceeds 2^64.
     MemoryExceedsTop = 11,
     /// List: the block length is not a multiple of 4 or above 2^32.
     ListingLength = 12,

@@ -109,7 +109,7 @@ pub enum End {
     Fault = 4,
     /// RET.
     Returned = 5,
-    /// BLR; X30 holds the next word's address.
+    /// BLR; X30 holds the next word's address. [`crate::a64_run_from`] goes on there.
     Called = 6,
 }
 
