@@ -225,27 +225,76 @@ mod tests {
     use draw::forms::{encode, is_a64, A64};
     use draw::Random;
 
+    const RET: u32 = 0xD65F_03C0;
+    const BLR_X16: u32 = 0xD63F_0200;
+    const BEFORE: A64State = A64State { x: [7; 31], sp: 3, nzcv: u64::MAX };
+    /// Beyond two words; four times the second and third, modulo 2^64, is a word's offset.
+    const BEYOND: [u64; 6] = [2, 3, 1 << 62, (1 << 62) + 1, 1 << 63, u64::MAX];
+
+    fn bytes(words: &[u32]) -> Vec<u8> {
+        words.iter().flat_map(|word| word.to_le_bytes()).collect()
+    }
+
+    /// Runs at address 0 with 16 bytes of memory, which stay: the answer and the state.
+    fn run(block: &[u8], first: u64, budget: u64, base: u64) -> (A64Answer, A64State) {
+        let (mut state, mut memory) = (BEFORE, [9; 16]);
+        let answer = a64_run_from(block, 0, first, &mut state, budget, &mut memory, base);
+        assert_eq!(memory, [9; 16]);
+        if first == 0 {
+            let mut whole = BEFORE;
+            let same = a64_run(block, 0, &mut whole, budget, &mut memory, base);
+            assert_eq!((same, whole, memory), (answer, state, [9; 16]));
+        }
+        (answer, state)
+    }
+
     #[test]
     fn refusals_change_nothing() {
-        let before = A64State { x: [7; 31], sp: 3, nzcv: u64::MAX };
-        let refused = |refusal| A64Answer { refusal, end: 0, steps: 0 };
-        for length in [1, 2, 3, 5, 7] {
-            let (mut state, mut memory) = (before, [9; 16]);
-            assert_eq!(
-                a64_run(&vec![0; length], 0, &mut state, 9, &mut memory, u64::MAX - 14),
-                refused(10)
-            );
-            assert_eq!((state, memory), (before, [9; 16]));
+        let refused = |refusal| (A64Answer { refusal, end: 0, steps: 0 }, BEFORE);
+        for first in [0, 1].into_iter().chain(BEYOND) {
+            for length in [1, 2, 3, 5, 7] {
+                assert_eq!(run(&vec![0; length], first, 9, u64::MAX - 14), refused(10));
+            }
+            for base in [u64::MAX - 14, u64::MAX] {
+                assert_eq!(run(&[], first, 0, base), refused(11));
+                assert_eq!(run(&bytes(&[RET, RET]), first, 9, base), refused(11));
+            }
         }
-        for base in [u64::MAX - 14, u64::MAX] {
-            let (mut state, mut memory) = (before, [9; 16]);
-            assert_eq!(a64_run(&[], 0, &mut state, 9, &mut memory, base), refused(11));
-            assert_eq!((state, memory), (before, [9; 16]));
-        }
-        let (mut state, mut memory) = (before, [9; 16]);
+    }
+
+    /// No word is left from the start, whatever the budget.
+    #[test]
+    fn beyond_the_last_is_off_the_end() {
         let end = A64Answer { refusal: 0, end: OFF_THE_END, steps: 0 };
-        assert_eq!(a64_run(&[], 0, &mut state, 9, &mut memory, u64::MAX - 15), end);
-        assert_eq!((state.nzcv, memory), (15, [9; 16]));
+        let after = A64State { nzcv: 15, ..BEFORE };
+        for budget in [0, 1, u64::MAX] {
+            for first in BEYOND {
+                assert_eq!(run(&bytes(&[RET, RET]), first, budget, 0), (end, after));
+            }
+            for first in [0, 1].into_iter().chain(BEYOND) {
+                assert_eq!(run(&[], first, budget, u64::MAX - 15), (end, after));
+            }
+        }
+    }
+
+    /// Steps count from 0, and X30 is the address of the word behind BLR, whichever word was the first.
+    #[test]
+    fn begins_at_its_word() {
+        let mut words = [0xD280_0020; 9]; // MOVZ X0, #1
+        words[6] = BLR_X16;
+        for (first, address) in (0..7).flat_map(|first| [0, 0x4000, !0 - 27].map(|at| (first, at)))
+        {
+            let left = 7 - first;
+            for (budget, end) in (0..9).map(|b| (b, if b < left { SPENT } else { CALLED })) {
+                let mut state = BEFORE;
+                let block = bytes(&words);
+                let answer = a64_run_from(&block, address, first, &mut state, budget, &mut [], 0);
+                assert_eq!(answer, A64Answer { refusal: 0, end, steps: budget.min(left) });
+                let link = if end == CALLED { address.wrapping_add(28) } else { 7 };
+                let x0 = if answer.steps == 0 || left == 1 { 7 } else { 1 };
+                assert_eq!((state.x[0], state.x[30]), (x0, link), "{first} {address:x} {budget}");
+            }
+        }
     }
 
     /// Each form with many fields, and the words one or two bits away.

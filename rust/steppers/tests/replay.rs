@@ -1,7 +1,7 @@
 //! The recorded cases through the steppers: no difference.
 
 use steppers::records::{a64_cases, rv64_cases, rv64_rules, A64Case, Rv64Case};
-use steppers::{a64_run, rv64_run};
+use steppers::{a64_run, a64_run_from, rv64_run, A64Answer, RETURNED};
 
 const RV64: &[u8] = include_bytes!("../../../crates/rv64_replay/data/rv64.bin");
 const RV64_RULES: &[u8] = include_bytes!("../../../crates/rv64_replay/data/rv64_rules.bin");
@@ -68,4 +68,23 @@ fn a64_rules() {
     let cases = a64_cases(A64_RULES);
     assert!(cases.len() >= 400);
     replay_a64(&cases);
+}
+
+/// Each run cut after one of its words, and gone on with there: it ends as recorded.
+#[test]
+fn a64_in_two_parts() {
+    let cases = a64_cases(A64).into_iter().chain(a64_cases(A64_RULES));
+    for (number, case) in cases.enumerate() {
+        let A64Case { ref block, address, budget, base, mut before, .. } = case;
+        let A64Answer { end, steps, .. } = case.answer;
+        let cuts = if end < RETURNED { steps + 1 } else { steps };
+        let first = number as u64 % cuts;
+        let mut memory = case.memory_before.clone();
+        let cut = a64_run(block, address, &mut before, first, &mut memory, base);
+        assert_eq!(cut.steps, first);
+        let rest =
+            a64_run_from(block, address, first, &mut before, budget - first, &mut memory, base);
+        assert_eq!(rest, A64Answer { steps: steps - first, ..case.answer }, "{block:02x?} {first}");
+        assert_eq!((before, &memory), (case.after, &case.memory_after), "{block:02x?} {first}");
+    }
 }
