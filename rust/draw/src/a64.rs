@@ -1,4 +1,4 @@
-//! A64 words, and questions to A64 run.
+//! A64 words, and questions to A64 run and A64 run from.
 
 use crate::case::{Case, SLOTS};
 use crate::forms::{encode, A64};
@@ -58,11 +58,12 @@ pub fn plain_run(random: &mut Random, length: usize) -> Vec<u8> {
     block
 }
 
-/// A question to A64 run.
+/// A question to A64 run from; where `first` is 0, to A64 run.
 #[derive(Clone, Debug)]
 pub struct A64Case {
     pub block: Vec<u8>,
     pub address: u64,
+    pub first: u64,
     pub x: [u64; 31],
     pub sp: u64,
     pub nzcv: u64,
@@ -71,7 +72,7 @@ pub struct A64Case {
     pub base: u64,
 }
 
-/// Draws questions to A64 run.
+/// Draws questions to A64 run from.
 #[derive(Default)]
 pub struct A64Cases {
     guests: Guests,
@@ -85,11 +86,13 @@ impl A64Cases {
         let (memory, base) = self.memory(random);
         let (x, sp) = state(random, base.wrapping_sub(slot_offset), base);
         let words = block.len() as u64 / 4;
+        let first = first(random, words);
+        let left = words.saturating_sub(first);
         let budget = match random.below(8) {
-            0 => random.below(words as usize + 3) as u64,
-            1 => words,
-            2 => words.saturating_sub(1),
-            3 => random.pick(&[0, 1, words + 1]),
+            0 => random.below(left as usize + 3) as u64,
+            1 => left,
+            2 => left.saturating_sub(1),
+            3 => random.pick(&[0, 1, left + 1]),
             _ => u64::MAX,
         };
         let address = match random.below(4) {
@@ -97,7 +100,7 @@ impl A64Cases {
             1 => random.next(),
             _ => 0x4000,
         };
-        A64Case { block, address, x, sp, nzcv: random.next(), budget, memory, base }
+        A64Case { block, address, first, x, sp, nzcv: random.next(), budget, memory, base }
     }
 
     /// Block bytes and the slot offset: a translation, words of the 24 forms, or any words.
@@ -134,6 +137,19 @@ impl A64Cases {
             _ => 0x10_0000,
         };
         (self.pool.cut(random, size), base)
+    }
+}
+
+/// The number of the word to begin at: 0 half the time, inside, the last, and at or beyond the number of words.
+fn first(random: &mut Random, words: u64) -> u64 {
+    match random.below(16) {
+        0..=7 => 0,
+        8..=11 => random.below(words as usize + 1) as u64,
+        12 => words.saturating_sub(1),
+        13 => words,
+        14 => words + 1,
+        // Four times these, modulo 2^64, may be a word's offset.
+        _ => random.pick(&[1 << 62, (1 << 62) + words / 2, 1 << 63, u64::MAX]),
     }
 }
 
