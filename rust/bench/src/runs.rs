@@ -4,10 +4,11 @@ use crate::{row, SEED};
 use draw::a64::plain_run;
 use draw::guest::Guests;
 use draw::values::registers;
-use draw::Random;
+use draw::{Case, Random, LONGEST};
 use hilofanur::{boundary, Guest, Registers};
+use oracle::expected;
 use std::hint::black_box;
-use steppers::{a64_run, rv64_run, A64Answer, A64State, Rv64Answer};
+use steppers::{a64_run, a64_run_from, rv64_run, A64Answer, A64State, Rv64Answer};
 
 /// The memory of A64 runs. X0 and SP point to its middle; loads and stores reach 32 KiB from there.
 const BASE: u64 = 0x10_0000;
@@ -24,6 +25,7 @@ pub fn rows() {
     a64(400, 1);
     a64(16, 4);
     no_word();
+    behind_a_call();
     one_nop();
 }
 
@@ -111,6 +113,39 @@ fn no_word() {
         &[()],
         |()| proved_a64(black_box(&[]), &mut bytes, &mut []),
         |()| plain_a64(black_box(&[]), &mut state, &mut []),
+    );
+}
+
+/// What it costs to go on behind the call of a helper: the five words of a block of seven C.NOP and LD x10, 8(x11).
+fn behind_a_call() {
+    let guest = [&[1, 0].repeat(7)[..], &[0x03, 0xB5, 0x85, 0x00]].concat();
+    let mut block = vec![0; LONGEST];
+    let length = expected(&Case::new(&guest, 64), &mut block).length;
+    block.truncate(length as usize);
+    let mut start = A64State { x: [MIDDLE; 31], sp: MIDDLE, nzcv: 0 };
+    let mut memory = vec![0; MEMORY];
+    let call = plain_a64(&block, &mut start, &mut memory);
+    assert_eq!(call.end, steppers::CALLED);
+    let (first, start_bytes, mut plain_memory) = (call.steps, start.to_bytes(), memory.clone());
+    let mut proved = |block: &[u8]| {
+        let mut bytes = start_bytes;
+        let a = boundary::a64_run_from(block, 0, first, &mut bytes, u64::MAX, &mut memory, BASE);
+        (A64Answer { refusal: a.refusal, end: a.end, steps: a.steps }, bytes)
+    };
+    let mut plain = |block: &[u8]| {
+        let mut state = start;
+        let a = a64_run_from(block, 0, first, &mut state, u64::MAX, &mut plain_memory, BASE);
+        (a, state)
+    };
+    let (answer, after) = plain(&block);
+    assert_eq!(answer, A64Answer { refusal: 0, end: steppers::RETURNED, steps: 5 });
+    assert_eq!(proved(&block), (answer, after.to_bytes()));
+    row(
+        "A64 run from, behind a call",
+        (1, "call"),
+        &[block],
+        |block| proved(black_box(block)),
+        |block| plain(black_box(block)),
     );
 }
 
