@@ -1,7 +1,8 @@
 //! What the listing allocates: `list_into` nothing, `list` its text alone, and nothing where it refuses more than the longest block.
-//! What the index allocates: its bytes, and its calls nothing.
+//! What the index allocates: its bytes, and its calls nothing. The A64 runs allocate nothing.
 
-use hilofanur::{list, list_into, Found, Index, Key, Refusal, INDEX_BYTES, LONGEST_LINE};
+use hilofanur::{a64_run, a64_run_from, list, list_into, A64Run, A64State, End, Found, Index, Key};
+use hilofanur::{Refusal, INDEX_BYTES, LONGEST_LINE};
 use std::alloc::{GlobalAlloc, Layout, System};
 use std::cell::Cell;
 
@@ -79,4 +80,21 @@ fn index() {
     let refused = (0, Err(Refusal::CodeLength));
     assert_eq!(allocated(|| index.place(&mut store, key, 1, &[1; 5])), refused);
     assert_eq!(allocated(|| index.empty()), (0, ()));
+}
+
+#[test]
+fn a64_runs() {
+    let block = 0xD65F_03C0_u32.to_le_bytes().repeat(WORDS);
+    let (words, mut state) = (WORDS as u64, A64State::default());
+    let returned = (0, Ok(A64Run { end: End::Returned, steps: 1 }));
+    assert_eq!(allocated(|| a64_run(&block, 0, &mut state, 9, &mut [], 0)), returned);
+    let mut from = |block: &[u8], first, memory: &mut [u8], base| {
+        allocated(|| a64_run_from(block, 0, first, &mut state, 9, memory, base))
+    };
+    assert_eq!(from(&block, words - 1, &mut [], 0), returned);
+    let end = (0, Ok(A64Run { end: End::OffTheEnd, steps: 0 }));
+    assert_eq!(from(&block, words, &mut [], 0), end);
+    assert_eq!(from(&block, u64::MAX, &mut [], 0), end);
+    assert_eq!(from(&block[1..], 0, &mut [], 0), (0, Err(Refusal::BlockLength)));
+    assert_eq!(from(&block, 0, &mut [0; 2], u64::MAX), (0, Err(Refusal::MemoryExceedsTop)));
 }

@@ -41,6 +41,35 @@ static void end_kinds(void)
     end_kind(drop, sizeof drop, HILOFANUR_DROP);
 }
 
+/* C.NOP and C.LW, whose helper the caller plays: called, then gone on with. */
+static void call(void)
+{
+    static const uint8_t guest[] = {0x01, 0x00, 0x00, 0x40};
+    uint8_t block[HILOFANUR_LONGEST_BLOCK], state[HILOFANUR_STATE] = {0}, memory[HILOFANUR_REGISTERS + 16] = {0};
+    uint32_t length = hilofanur_translate(
+        guest, sizeof guest, 0x1000, 2, false, 0, 0x10000, 0x20000, 0x30000, block, sizeof block).length;
+    /* X30 is 7; SP is 272, behind the slots and 16 bytes. */
+    state[8 * 30] = 7;
+    state[8 * 31] = 0x10;
+    state[8 * 31 + 1] = 0x01;
+    struct hilofanur_a64_run_answer run =
+        hilofanur_a64_run(block, length, 0x4000, state, 100, memory, sizeof memory, 0);
+    printf("called %d %" PRIu64 " %" PRIx32, run.end == HILOFANUR_CALLED, run.steps, word_at(state + 8 * 16));
+    printf(" %" PRIx32 " %" PRIx32, word_at(state + 8 * 5), word_at(state + 8 * 6));
+    printf(" %" PRIx32 " %" PRIx32 "\n", word_at(state + 8 * 30), word_at(state + 8 * 31));
+    /* The helper's X0 is 0x1004, its X1 is 1. */
+    state[0] = 0x04;
+    state[1] = 0x10;
+    state[8] = 1;
+    run = hilofanur_a64_run_from(block, length, 0x4000, run.steps, state, 100, memory, sizeof memory, 0);
+    printf("returned %d %" PRIu64 " %" PRIx32, run.end == HILOFANUR_RETURNED, run.steps, word_at(state));
+    printf(" %" PRIx32 " %" PRIx32 " %" PRIx32 "\n", word_at(state + 8), word_at(state + 8 * 30), word_at(state + 8 * 31));
+    run = hilofanur_a64_run_from(block, length, 0x4000, UINT64_MAX, state, 0, memory, sizeof memory, 0);
+    printf("off the end %d %" PRIu64 "\n", run.end == HILOFANUR_OFF_THE_END, run.steps);
+    printf("refused %" PRIu32, hilofanur_a64_run_from(block, 3, 0, 9, state, 9, memory, 0, 0).refusal);
+    printf(" %" PRIu32 "\n", hilofanur_a64_run_from(block, 4, 0, 9, state, 9, memory, 2, UINT64_MAX).refusal);
+}
+
 static void place(uint8_t *index, uint8_t *store, size_t length, uint64_t pc, const uint8_t *code, size_t code_length)
 {
     struct hilofanur_index_place_answer placed =
@@ -113,5 +142,6 @@ int main(void)
     printf("refused %" PRIu64 "\n", hilofanur_list(output, block.length, listing, length - 1).refusal);
     use_index();
     end_kinds();
+    call();
     return 0;
 }

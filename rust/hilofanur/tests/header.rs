@@ -41,6 +41,15 @@ end kind 1, 68 bytes, count 2, ran 1 to 1002
 end kind 1, 12 bytes, count 2, ran 2 to 1006
 ";
 
+/// At the call: steps, X16, the instruction, its PC, X30 and SP; behind it: steps, X0, X1, X30 and SP. Then A64 run from off the
+/// end, and its refusals.
+const CALLED: &str = "\
+called 1 12 30000 4000 1002 4030 100
+returned 1 5 1004 2 7 110
+off the end 1 0
+refused 10 11
+";
+
 #[test]
 fn from_c() {
     let here = Path::new(env!("CARGO_MANIFEST_DIR"));
@@ -56,7 +65,7 @@ fn from_c() {
     let ran = Command::new(&program).output().unwrap();
     let others = "refused 1\nrefused 6\nplaced 8 28\nran 1 1002 ff\nend 1 5 1002\n";
     let bytes = format!("index bytes {INDEX_BYTES}\n");
-    let expected = [PRINTED, others, LISTED, INDEXED, &bytes, ENDED].concat();
+    let expected = [PRINTED, others, LISTED, INDEXED, &bytes, ENDED, CALLED].concat();
     assert_eq!(String::from_utf8_lossy(&ran.stdout), expected);
     assert!(ran.status.success());
 }

@@ -5,8 +5,8 @@ use draw::forms::is_a64;
 use draw::words;
 use hilofanur::boundary::{self, A64RunAnswer, ListAnswer, PlaceAnswer};
 use hilofanur::boundary::{IndexLookupAnswer, IndexPlaceAnswer, Rv64RunAnswer, TranslateAnswer};
-use hilofanur::{a64_run, list, list_into, place, rv64_run, translate};
-use hilofanur::{A64State, End, EndKind, Guest, Host, Index, Key};
+use hilofanur::{a64_run, a64_run_from, list, list_into, place, rv64_run, translate};
+use hilofanur::{A64Run, A64State, End, EndKind, Guest, Host, Index, Key};
 use hilofanur::{Found, ListRefused, Placed, Refusal, Registers, INDEX_BYTES};
 
 const HOST: Host =
@@ -131,16 +131,30 @@ fn rv64_run_by_number() {
     refuse_rv64(9, guest(&[0x7D, 0x55], 0, 64), 1 << 63);
 }
 
+/// Words to begin at in a block of at most two: inside, at their number, beyond it, and such that four times the number is a
+/// word's offset modulo 2^64.
+const FIRSTS: [u64; 8] = [0, 1, 2, 3, 1 << 62, (1 << 62) + 1, 1 << 63, u64::MAX];
+
+fn a64_state() -> A64State {
+    A64State { x: std::array::from_fn(|n| n as u64), sp: 3, nzcv: u64::MAX - 5 }
+}
+
+/// By A64 run and, at whatever word it begins, by A64 run from.
 fn refuse_a64(number: u32, block: &[u8], memory: usize, base: u64) {
-    let state = A64State { x: std::array::from_fn(|n| n as u64), sp: 3, nzcv: u64::MAX };
-    let (mut bytes, mut lent) = (state.to_bytes(), vec![FILL; memory]);
-    let answer = boundary::a64_run(block, 0, &mut bytes, 9, &mut lent, base);
+    let (mut state, mut lent) = (a64_state(), vec![FILL; memory]);
+    let mut bytes = state.to_bytes();
     let expected = A64RunAnswer { refusal: number, ..A64RunAnswer::default() };
+    let refusal = Err(Refusal::from_number(number).unwrap());
+    let answer = boundary::a64_run(block, 0, &mut bytes, 9, &mut lent, base);
     assert_eq!(answer, expected, "{block:x?} {memory} {base:x}");
-    assert_eq!((bytes, &lent), (state.to_bytes(), &vec![FILL; memory]));
-    let mut after = state;
-    let refusal = a64_run(block, 0, &mut after, 9, &mut lent, base).unwrap_err();
-    assert_eq!((refusal.number(), after), (number, state));
+    assert_eq!(a64_run(block, 0, &mut state, 9, &mut lent, base), refusal);
+    for (first, budget) in FIRSTS.into_iter().flat_map(|first| [(first, 0), (first, 9)]) {
+        let answer = boundary::a64_run_from(block, 0, first, &mut bytes, budget, &mut lent, base);
+        assert_eq!(answer, expected, "{block:x?} {first} {memory} {base:x}");
+        assert_eq!(a64_run_from(block, 0, first, &mut state, budget, &mut lent, base), refusal);
+    }
+    assert_eq!((bytes, state), (a64_state().to_bytes(), a64_state()));
+    assert_eq!(lent, vec![FILL; memory]);
 }
 
 #[test]
@@ -156,6 +170,27 @@ fn a64_run_by_number() {
     let mut state = A64State { nzcv: u64::MAX, ..A64State::default() };
     let run = a64_run(&[], 0, &mut state, 9, &mut [FILL; 16], u64::MAX - 15).unwrap();
     assert_eq!((run.end, run.steps, state.nzcv), (End::OffTheEnd, 0, 15));
+}
+
+/// Of NZCV the low four bits come out. At or beyond the number of words no word is left, whatever the budget.
+#[test]
+fn a64_run_from_accepts_the_edges() {
+    let after = A64State { nzcv: 10, ..a64_state() };
+    for (words, first) in (0..3).flat_map(|words| FIRSTS.map(|first| (words, first))) {
+        let block = 0xD65F_03C0_u32.to_le_bytes().repeat(words);
+        for budget in [0, 1, 9, u64::MAX] {
+            let (mut state, mut memory) = (a64_state(), [FILL; 16]);
+            let top = u64::MAX - 15;
+            let run = a64_run_from(&block, 0, first, &mut state, budget, &mut memory, top);
+            let (end, steps) = match budget {
+                _ if first >= words as u64 => (End::OffTheEnd, 0),
+                0 => (End::Spent, 0),
+                _ => (End::Returned, 1),
+            };
+            assert_eq!(run, Ok(A64Run { end, steps }), "{words} {first} {budget}");
+            assert_eq!((state, memory), (after, [FILL; 16]), "{words} {first} {budget}");
+        }
+    }
 }
 
 fn refuse_list(number: u64, block: &[u8], room: usize) {

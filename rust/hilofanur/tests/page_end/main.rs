@@ -6,13 +6,13 @@ mod guard;
 mod index;
 
 use guard::{Edge, Guarded};
-use hilofanur::boundary::{a64_run, list, place, rv64_run, translate};
+use hilofanur::boundary::{a64_run, a64_run_from, list, place, rv64_run, translate};
 use hilofanur::boundary::{A64RunAnswer, ListAnswer, PlaceAnswer, Rv64RunAnswer, TranslateAnswer};
 use hilofanur::{Guest, Host, Refusal, Registers, LONGEST_LINE};
 use std::os::unix::process::ExitStatusExt;
 use std::process::Command;
 use steppers::records::{a64_cases, rv64_cases, rv64_rules, Reader};
-use steppers::Rv64Answer;
+use steppers::{Rv64Answer, OFF_THE_END, RETURNED};
 
 const BLOCKS: &[u8] = include_bytes!("../../../../crates/blocks_replay/data/blocks.bin");
 const PLACE: &[u8] = include_bytes!("../../../../crates/place_replay/data/place.bin");
@@ -142,6 +142,35 @@ fn a64_runs() {
             assert_eq!(*state, case.after.to_bytes(), "{:x?}", case.block);
             assert_eq!(*memory, case.memory_after, "{:x?}", case.block);
         }
+    }
+}
+
+/// Each run cut after one of its words, and gone on with there: it ends as recorded. From a word beyond the last no more comes.
+#[test]
+fn a64_runs_in_two_parts() {
+    let cases = a64_cases(A64).into_iter().step_by(8).chain(a64_cases(A64_RULES));
+    for ((number, case), edge) in cases.enumerate().zip(EDGES.into_iter().cycle()) {
+        let (address, base, end, steps) =
+            (case.address, case.base, case.answer.end, case.answer.steps);
+        let cuts = if end < RETURNED { steps + 1 } else { steps };
+        let first = number as u64 / 2 % cuts;
+        let block = Guarded::read_only(&case.block, edge);
+        let mut state = Guarded::new(&case.before.to_bytes(), edge);
+        let mut memory = Guarded::new(&case.memory_before, edge);
+        let lent = state.first_chunk_mut().unwrap();
+        assert_eq!(a64_run(&block, address, lent, first, &mut memory, base).steps, first);
+        let left = case.budget - first;
+        let answer = a64_run_from(&block, address, first, lent, left, &mut memory, base);
+        let rest = A64RunAnswer { refusal: 0, end, steps: steps - first };
+        assert_eq!(answer, rest, "{:x?} {first}", case.block);
+        let words = block.len() as u64 / 4;
+        for beyond in [words, words + 1, 1 << 62, (1 << 62) + first, u64::MAX] {
+            let answer = a64_run_from(&block, address, beyond, lent, 9, &mut memory, base);
+            let none = A64RunAnswer { refusal: 0, end: OFF_THE_END, steps: 0 };
+            assert_eq!(answer, none, "{beyond}");
+        }
+        assert_eq!(*state, case.after.to_bytes(), "{:x?} {first}", case.block);
+        assert_eq!(*memory, case.memory_after, "{:x?} {first}", case.block);
     }
 }
 
