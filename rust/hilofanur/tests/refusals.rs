@@ -135,8 +135,10 @@ fn rv64_run_by_number() {
 /// word's offset modulo 2^64.
 const FIRSTS: [u64; 8] = [0, 1, 2, 3, 1 << 62, (1 << 62) + 1, 1 << 63, u64::MAX];
 
+/// Every byte of it is other than 0.
 fn a64_state() -> A64State {
-    A64State { x: std::array::from_fn(|n| n as u64), sp: 3, nzcv: u64::MAX - 5 }
+    let x = std::array::from_fn(|n| (n as u64 + 1) * 0x0101_0101_0101_0101);
+    A64State { x, sp: u64::MAX / 5, nzcv: u64::MAX - 5 }
 }
 
 /// By A64 run and, at whatever word it begins, by A64 run from.
