@@ -43,11 +43,25 @@ pub fn a64_run(
     memory: &mut [u8],
     base: u64,
 ) -> A64Answer {
-    a64_run_from(block, address, 0, state, budget, memory, base)
+    run_from(block, address, 0, state, budget, memory, base)
 }
 
 /// Runs the block from the word numbered `first` on; `address` is still that of word 0.
 pub fn a64_run_from(
+    block: &[u8],
+    address: u64,
+    first: u64,
+    state: &mut A64State,
+    budget: u64,
+    memory: &mut [u8],
+    base: u64,
+) -> A64Answer {
+    run_from(block, address, first, state, budget, memory, base)
+}
+
+// Inlined, so that A64 run is compiled for word 0.
+#[inline(always)]
+fn run_from(
     block: &[u8],
     address: u64,
     first: u64,
