@@ -1,14 +1,14 @@
 -- The helper's call: its arguments, from the machine before it, are document 01's. Assumes nothing.
-use mathlib.Core.Path.{_≡_, refl, ap, _∙_}
+use mathlib.Core.Path.{_≡_, refl, sym}
 use mathlib.Core.Bool.{Bool, true, false, cond}
 use mathlib.Core.Logic.{_⊎_, inl, inr}
 use mathlib.Core.List.{List, [], _∷_, _++_, map}
 use mathlib.Core.Option.{Option, none, some}
-use Prim.Native.Nat.{ℕ, _%_, _^_, _≤_, _<_}
+use Prim.Native.Nat.{ℕ, zero, suc, _%_, _^_, _≤_, _<_}
+use native.Mathlib.Nat.{not-suc-le-zero, le-of-suc-le-suc}
 use native.Mathlib.Omega.{arith}
 use lib.Dec.{eqb}
 use lib.ListN.{length, getD}
-use borrow.Author.Tests.{eqb-true}
 use Rattle.word.specs.Word.{add}
 use Rattle.isa.specs.Formats.{rd, funct3, rs1, rs2, i-imm, s-imm}
 use Rattle.isa.specs.Decode as Rust
@@ -38,6 +38,16 @@ restoring n = emit (ldr-x 30 31 0) ∷ emit (add-sp-imm 16) ∷ if-not-0 n (mov-
 abbrev pub calling : ℕ → List Call
 calling n = emit (sub-sp-imm 16) ∷ emit (str-x 30 31 0) ∷ emit (blr 16) ∷ (restoring n ++ (emit ret ∷ []))
 
+-- the numbers at 0, 1, .. are those of a list
+abbrev pub Are : (ℕ → ℕ) → List ℕ → Type 0
+Are f [] = Unit {0}
+Are f (a ∷ l) = (f 0 ≡ a) × Are (λ k. f (suc k)) l
+
+pub at-each : (f : ℕ → ℕ) (l : List ℕ) → Are f l → (k : ℕ) → k < length l → f k ≡ getD l k 0
+at-each f [] e k h = absurd (not-suc-le-zero h)
+at-each f (a ∷ l) e zero h = e .0
+at-each f (a ∷ l) e (suc k) h = at-each (λ k. f (suc k)) l (e .1) k (le-of-suc-le-suc h)
+
 -- the calls hs of a helper's emitter, on the model v, after n instructions: what is called is c
 pub record Arranged (hs : List Call) (v : Model) (n : ℕ) (c : Spec.Call) : Type 0 where
   -- scratch registers, then the arguments and X16
@@ -47,15 +57,11 @@ pub record Arranged (hs : List Call) (v : Model) (n : ℕ) (c : Spec.Call) : Typ
   pub fine : Fine early
   pub range : Moves moves
   pub few : length (c .arguments) ≤ 8
-  pub arguments : (k : ℕ) → k < length (c .arguments) → all-moved moves (calls-run early v .r) k ≡ getD (c .arguments) k 0
+  pub arguments : Are (all-moved moves (calls-run early v .r)) (c .arguments)
   pub x16 : all-moved moves (calls-run early v .r) 16 ≡ c .helper
 
 module _ (s : State) (v : Model) (κ : Kept (reg s) true v) (z : getD (v .slots) 0 0 ≡ 0) (n pc : ℕ) (hp : pc < 2 ^ 64) where
-  -- X1 to X5 hold what they held at entry
-  same : (k : ℕ) → scratch k ≡ false → v .r k ≡ reg s k
-  same k q = κ .same k q
-
-  pub general-call : (helper w : ℕ) → helper < 2 ^ 64 → w < 2 ^ 64 → Arranged (TH.call-exec helper pc w n) v n (Spec.general helper s w pc)
+  general-call : (helper w : ℕ) → helper < 2 ^ 64 → w < 2 ^ 64 → Arranged (TH.call-exec helper pc w n) v n (Spec.general helper s w pc)
   unfolding scratch calls-run
   general-call helper w hh hw =
       record {
@@ -65,16 +71,9 @@ module _ (s : State) (v : Model) (κ : Kept (reg s) true v) (z : getD (v .slots)
         fine = nothing;
         range = omega (arith, hh, hw, hp);
         few = omega arith;
-        arguments = λ k l. digit (λ k. k < 7 → all-moved (from 0 1 ∷ from 1 2 ∷ from 2 3 ∷ from 3 4 ∷ from 4 5 ∷ constant 5 w ∷ constant 6 pc ∷ constant 16 helper ∷ []) (v .r) k ≡ getD (Spec.general helper s w pc .arguments) k 0)
-            (λ l. same 1 refl) (λ l. same 2 refl) (λ l. same 3 refl) (λ l. same 4 refl) (λ l. same 5 refl) (λ l. refl) (λ l. refl) (λ l. absurd (omega arith)) k (omega arith) l;
+        arguments = (κ .same 1 refl, (κ .same 2 refl, (κ .same 3 refl, (κ .same 4 refl, (κ .same 5 refl, (refl, (refl, tt)))))));
         x16 = refl;
       }
-
-  abbrev load-moves : ℕ → ℕ → ℕ → List Move
-  load-moves helper op d = from 0 1 ∷ from 1 2 ∷ from 2 3 ∷ constant 3 op ∷ constant 4 d ∷ constant 5 0 ∷ from 6 11 ∷ constant 7 pc ∷ constant 16 helper ∷ []
-
-  abbrev store-moves : ℕ → ℕ → ℕ → List Move
-  store-moves helper op d = from 0 1 ∷ from 1 2 ∷ from 2 3 ∷ constant 3 op ∷ constant 4 d ∷ from 5 12 ∷ from 6 11 ∷ constant 7 pc ∷ constant 16 helper ∷ []
 
   load-call : (helper op w : ℕ) → helper < 2 ^ 64 → op < 2 ^ 64 → w < 2 ^ 32
       → Arranged (TH.load-calls helper op pc w (Rust.decode32 w) n) v n (Spec.memory helper s op w 0 (add (read (v .slots) (rs1 w)) (i-imm w)) pc)
@@ -83,13 +82,12 @@ module _ (s : State) (v : Model) (κ : Kept (reg s) true v) (z : getD (v .slots)
       let a : add (getD (v .slots) (rs1 w) 0) (Rust.imm-i w) ≡ add (read (v .slots) (rs1 w)) (i-imm w) = rw (imm-i-is w hw, read-slot (v .slots) z (rs1 w)) in
       record {
         early = load 9 (rs1 w) ∷ mov-imm64 10 (Rust.imm-i w) ∷ emit (add-x 11 9 10) ∷ [];
-        moves = load-moves helper op (rd w);
+        moves = from 0 1 ∷ from 1 2 ∷ from 2 3 ∷ constant 3 op ∷ constant 4 (rd w) ∷ constant 5 0 ∷ from 6 11 ∷ constant 7 pc ∷ constant 16 helper ∷ [];
         is = refl;
         fine = record { fit = tt; stay = refl; range = (omega arith, (rw (imm-i-is w hw) (omega arith), (tt, tt))); slots = λ u. refl };
         range = omega (arith, hh, ho, hp);
         few = omega arith;
-        arguments = λ k l. digit (λ k. k < 8 → all-moved (load-moves helper op (rd w)) (calls-run (load 9 (rs1 w) ∷ mov-imm64 10 (Rust.imm-i w) ∷ emit (add-x 11 9 10) ∷ []) v .r) k ≡ getD (Spec.memory helper s op w 0 (add (read (v .slots) (rs1 w)) (i-imm w)) pc .arguments) k 0)
-            (λ l. same 1 refl) (λ l. same 2 refl) (λ l. same 3 refl) (λ l. refl) (λ l. refl) (λ l. refl) (λ l. a) (λ l. refl) k l l;
+        arguments = (κ .same 1 refl, (κ .same 2 refl, (κ .same 3 refl, (refl, (refl, (refl, (a, (refl, tt))))))));
         x16 = refl;
       }
 
@@ -98,62 +96,49 @@ module _ (s : State) (v : Model) (κ : Kept (reg s) true v) (z : getD (v .slots)
   unfolding all-fit fits form-fits keeps written all-keep scratch calls-run call-step form-step op-value decode
   store-call helper op w hh ho hw =
       let a : add (getD (v .slots) (rs1 w) 0) (Rust.imm-s w) ≡ add (read (v .slots) (rs1 w)) (s-imm w) = rw (imm-s-is w hw, read-slot (v .slots) z (rs1 w)) in
-      let b : getD (v .slots) (rs2 w) 0 ≡ read (v .slots) (rs2 w) = rw (read-slot (v .slots) z (rs2 w)) in
       record {
         early = load 9 (rs1 w) ∷ mov-imm64 10 (Rust.imm-s w) ∷ emit (add-x 11 9 10) ∷ load 12 (rs2 w) ∷ [];
-        moves = store-moves helper op (rd w);
+        moves = from 0 1 ∷ from 1 2 ∷ from 2 3 ∷ constant 3 op ∷ constant 4 (rd w) ∷ from 5 12 ∷ from 6 11 ∷ constant 7 pc ∷ constant 16 helper ∷ [];
         is = refl;
         fine = record { fit = tt; stay = refl; range = (omega arith, (rw (imm-s-is w hw) (omega arith), (tt, (omega arith, tt)))); slots = λ u. refl };
         range = omega (arith, hh, ho, hp);
         few = omega arith;
-        arguments = λ k l. digit (λ k. k < 8 → all-moved (store-moves helper op (rd w)) (calls-run (load 9 (rs1 w) ∷ mov-imm64 10 (Rust.imm-s w) ∷ emit (add-x 11 9 10) ∷ load 12 (rs2 w) ∷ []) v .r) k ≡ getD (Spec.memory helper s op w (read (v .slots) (rs2 w)) (add (read (v .slots) (rs1 w)) (s-imm w)) pc .arguments) k 0)
-            (λ l. same 1 refl) (λ l. same 2 refl) (λ l. same 3 refl) (λ l. refl) (λ l. refl) (λ l. b) (λ l. a) (λ l. refl) k l l;
+        arguments = (κ .same 1 refl, (κ .same 2 refl, (κ .same 3 refl, (refl, (refl, (sym (read-slot (v .slots) z (rs2 w)), (a, (refl, tt))))))));
         x16 = refl;
       }
 
   -- ---- the encodings
 
-  -- the operation that the Rust finds, if any, is the table's
-  loads-are : (t : ℕ) → t < 8 → (TH.load-op t ≡ none) ⊎ ((TH.load-op t ≡ some (lookup Spec.loads t itself 0)) × (lookup Spec.loads t itself 0 < 2 ^ 64))
+  -- an emission that ends the block is arranged as c
+  abbrev Takes : Emission → Spec.Call → Type 0
+  Takes e c = e .flow ≡ EmitFlow.Terminate → Arranged (e .calls) v n c
+
+  not-taken : {A : Type 0} → EmitFlow.None ≡ EmitFlow.Terminate → A
+  not-taken e = let y : _≡_ {A = ℕ} 0 1 = cc in absurd (omega arith)
+
+  -- the operation that the Rust finds, if any, is k
+  abbrev Finds : Option ℕ → ℕ → Type 0
+  Finds o k = (o ≡ none) ⊎ ((o ≡ some k) × (k < 2 ^ 64))
+
+  loads-are : (t : ℕ) → t < 8 → Finds (TH.load-op t) (lookup Spec.loads t itself 0)
   unfolding TH.load-op
   loads-are =
-      digit (λ t. (TH.load-op t ≡ none) ⊎ ((TH.load-op t ≡ some (lookup Spec.loads t itself 0)) × (lookup Spec.loads t itself 0 < 2 ^ 64)))
+      digit (λ t. Finds (TH.load-op t) (lookup Spec.loads t itself 0))
       (inr (refl, omega arith)) (inr (refl, omega arith)) (inr (refl, omega arith)) (inr (refl, omega arith))
       (inr (refl, omega arith)) (inr (refl, omega arith)) (inr (refl, omega arith)) (inl refl)
 
-  stores-are : (t : ℕ) → t < 8 → (TH.store-op t ≡ none) ⊎ ((TH.store-op t ≡ some (lookup Spec.stores t itself 0)) × (lookup Spec.stores t itself 0 < 2 ^ 64))
+  stores-are : (t : ℕ) → t < 8 → Finds (TH.store-op t) (lookup Spec.stores t itself 0)
   unfolding TH.store-op
   stores-are =
-      digit (λ t. (TH.store-op t ≡ none) ⊎ ((TH.store-op t ≡ some (lookup Spec.stores t itself 0)) × (lookup Spec.stores t itself 0 < 2 ^ 64)))
-      (inr (refl, omega arith)) (inr (refl, omega arith)) (inr (refl, omega arith)) (inr (refl, omega arith))
-      (inl refl) (inl refl) (inl refl) (inl refl)
+      digit (λ t. Finds (TH.store-op t) (lookup Spec.stores t itself 0))
+      (inr (refl, omega arith)) (inr (refl, omega arith)) (inr (refl, omega arith)) (inr (refl, omega arith)) (inl refl) (inl refl) (inl refl) (inl refl)
+
+  found-takes : (make : Option ℕ → Emission) (o : Option ℕ) (k : ℕ) (c : Spec.Call) → make none .flow ≡ EmitFlow.None
+      → (k < 2 ^ 64 → Takes (make (some k)) c) → Finds o k → Takes (make o) c
+  found-takes make o k c e f (inl p) = rw (p, e) (λ t. not-taken t)
+  found-takes make o k c e f (inr (p, l)) = rw p (f l)
 
   module _ (h : Host) (hm : h .«memory_helper» < 2 ^ 64) (h32 : h .helper32 < 2 ^ 64) (h16 : h .helper16 < 2 ^ 64) (w : ℕ) where
-    -- an emission that ends the block is arranged as c
-    abbrev Takes : Emission → Spec.Call → Type 0
-    Takes e c = e .flow ≡ EmitFlow.Terminate → Arranged (e .calls) v n c
-
-    none-taken : {A : Type 0} → EmitFlow.None ≡ EmitFlow.Terminate → A
-    none-taken e = let y : _≡_ {A = ℕ} 0 1 = cc in absurd (omega arith)
-
-    load-by : w < 2 ^ 32 → Takes (TH.load-helper h pc w (Rust.decode32 w) n (funct3 w)) (Spec.memory (h .«memory_helper») s (lookup Spec.loads (funct3 w) itself 0) w 0 (add (read (v .slots) (rs1 w)) (i-imm w)) pc)
-    unfolding TH.load-helper
-    load-by hw = by (loads-are (funct3 w) (omega arith))
-      where
-        by : (TH.load-op (funct3 w) ≡ none) ⊎ ((TH.load-op (funct3 w) ≡ some (lookup Spec.loads (funct3 w) itself 0)) × (lookup Spec.loads (funct3 w) itself 0 < 2 ^ 64))
-            → Takes (TH.with-load h pc w (Rust.decode32 w) n (TH.load-op (funct3 w))) (Spec.memory (h .«memory_helper») s (lookup Spec.loads (funct3 w) itself 0) w 0 (add (read (v .slots) (rs1 w)) (i-imm w)) pc)
-        by (inl e) = rw e (λ t. none-taken t)
-        by (inr (e, l)) = rw e (λ t. load-call (h .«memory_helper») (lookup Spec.loads (funct3 w) itself 0) w hm l hw)
-
-    store-by : w < 2 ^ 32 → Takes (TH.store-helper h pc w (Rust.decode32 w) n (funct3 w)) (Spec.memory (h .«memory_helper») s (lookup Spec.stores (funct3 w) itself 0) w (read (v .slots) (rs2 w)) (add (read (v .slots) (rs1 w)) (s-imm w)) pc)
-    unfolding TH.store-helper
-    store-by hw = by (stores-are (funct3 w) (omega arith))
-      where
-        by : (TH.store-op (funct3 w) ≡ none) ⊎ ((TH.store-op (funct3 w) ≡ some (lookup Spec.stores (funct3 w) itself 0)) × (lookup Spec.stores (funct3 w) itself 0 < 2 ^ 64))
-            → Takes (TH.with-store h pc w (Rust.decode32 w) n (TH.store-op (funct3 w))) (Spec.memory (h .«memory_helper») s (lookup Spec.stores (funct3 w) itself 0) w (read (v .slots) (rs2 w)) (add (read (v .slots) (rs1 w)) (s-imm w)) pc)
-        by (inl e) = rw e (λ t. none-taken t)
-        by (inr (e, l)) = rw e (λ t. store-call (h .«memory_helper») (lookup Spec.stores (funct3 w) itself 0) w hm l hw)
-
     -- the opcode is k, or not
     is : (P : Type 0) (k : ℕ) → (eqb (w % 128) k ≡ true → P) → (eqb (w % 128) k ≡ false → P) → P
     is P k f g = by (eqb (w % 128) k) refl
@@ -166,17 +151,17 @@ module _ (s : State) (v : Model) (κ : Kept (reg s) true v) (z : getD (v .slots)
     Takes32 = Takes (TH.emit-native-term-helper32 h pc w (Rust.decode32 w) n) (Spec.call h s (v .slots) w pc)
 
     pub takes32 : w < 2 ^ 32 → eqb (w % 4) 3 ≡ true → Takes32
-    unfolding TH.emit-native-term-helper32 TH.opcode-helper
+    unfolding TH.emit-native-term-helper32 TH.opcode-helper TH.load-helper TH.store-helper
     takes32 hw e =
         let general : EmitFlow.Terminate ≡ EmitFlow.Terminate → Arranged (TH.call-exec (h .helper32) pc w n) v n (Spec.general (h .helper32) s w pc) =
         λ t. general-call (h .helper32) w h32 (omega arith) in
-        is Takes32 0x73 (λ q. rw (e, q) (λ t. none-taken t)) (λ a.
-        is Takes32 0x03 (λ q. rw (e, a, q) (load-by hw)) (λ b.
-        is Takes32 0x23 (λ q. rw (e, a, b, q) (store-by hw)) (λ c.
+        is Takes32 0x73 (λ q. rw (e, q) (λ t. not-taken t)) (λ a.
+        is Takes32 0x03 (λ q. rw (e, a, q) (found-takes (TH.with-load h pc w (Rust.decode32 w) n) _ _ _ refl (λ l t. load-call (h .«memory_helper») _ w hm l hw) (loads-are (funct3 w) (omega arith)))) (λ b.
+        is Takes32 0x23 (λ q. rw (e, a, b, q) (found-takes (TH.with-store h pc w (Rust.decode32 w) n) _ _ _ refl (λ l t. store-call (h .«memory_helper») _ w hm l hw) (stores-are (funct3 w) (omega arith)))) (λ c.
         is Takes32 0x07 (λ q. rw (e, a, b, c, q) general) (λ d.
         is Takes32 0x27 (λ q. rw (e, a, b, c, d, q) general) (λ f.
         is Takes32 0x2F (λ q. rw (e, a, b, c, d, f, q) general) (λ g.
-        rw (e, a, b, c, d, f, g) (λ t. none-taken t)))))))
+        rw (e, a, b, c, d, f, g) (λ t. not-taken t)))))))
 
     pub takes16 : w < 2 ^ 16 → eqb (w % 4) 3 ≡ false → Takes (TH.emit-native-term-helper16 h pc w n) (Spec.call h s (v .slots) w pc)
     unfolding TH.emit-native-term-helper16
@@ -184,4 +169,4 @@ module _ (s : State) (v : Model) (κ : Kept (reg s) true v) (z : getD (v .slots)
       where
         by : (b : Bool) → Takes (cond b (Emitting.terminate (TH.call-exec (h .helper16) pc w n)) (Emitting.none [])) (Spec.general (h .helper16) s w pc)
         by true t = general-call (h .helper16) w h16 (omega arith)
-        by false t = none-taken t
+        by false t = not-taken t

@@ -41,7 +41,7 @@ use Rattle.translation.proofs.Registers.{getD-tab, length-tab, tab}
 use Rattle.translation.proofs.Calls.{Model, calls-run, scratch, all-fit, all-keep, AllIn, Kept, calls-kept, real}
 use Rattle.translation.proofs.Moves.{Move, move-call, all-moved, with-r, moves-go, moves-high, moves-small}
 use Rattle.translation.proofs.Instrs.{run-append, fit-append, in-append}
-use Rattle.translation.proofs.Arguments.{restoring, calling, Arranged, takes32, takes16}
+use Rattle.translation.proofs.Arguments.{restoring, calling, at-each, Arranged, takes32, takes16}
 use Rattle.translation.proofs.Fences.{never}
 use Rattle.translation.proofs.Blocks.{Walks, Taken, Helps, Follow, word-at, wide}
 use Rattle.translation.proofs.Entering.{words-bytes, straight-words, to-return, entered, Begun, kept, begins, block-walks}
@@ -53,7 +53,7 @@ use Rattle.translation.proofs.Whole.{count-small}
 -- the one at an index is in the guest bytes, and of 32 bits or of 16
 record Fetched (guest : List ℕ) (index instr : ℕ) : Type 0 where
   inside : index + 2 ≤ length guest
-  is : Spec.first (drop index guest) ≡ instr
+  is : Spec.first-instruction (drop index guest) ≡ instr
   width : ((eqb (instr % 4) 3 ≡ true) × (instr < 2 ^ 32)) ⊎ ((eqb (instr % 4) 3 ≡ false) × (instr < 2 ^ 16))
 
 fetched : (guest : List ℕ) → Bytes guest → (pc index instr : ℕ) → fetch pc guest index ≡ some instr → Fetched guest index instr
@@ -248,6 +248,9 @@ module _ (h : Host) (hm : h .«memory_helper» < 2 ^ 64) (h32 : h .helper32 < 2 
         let z : length ws + 0 ≡ length ws = omega arith in
         rw e (straight-run ws (blr 16 ∷ rest) address (suc (budget - suc (length ws))) 0 s saved straight ∙ rw z)
 
+    argument : (k : ℕ) → k < length (Spec.called h guest pc s g .arguments) → rs k ≡ getD (Spec.called h guest pc s g .arguments) k 0
+    argument = rw u-is (at-each _ (Spec.called h guest pc s g .arguments) (a .arguments))
+
     -- ---- behind the call
 
     -- what the words behind it do, from a state with SP and the cell as found
@@ -311,7 +314,7 @@ module _ (h : Host) (hm : h .«memory_helper» < 2 ^ 64) (h32 : h .helper32 < 2 
           instructions = omega (arith, y .count);
           before = y .why;
           slots = slot-holds;
-          arguments = λ k l. other address k (omega (arith, l, a .few)) ∙ rw (← u-is) at (a .arguments k l);
+          arguments = λ k l. other address k (omega (arith, l, a .few)) ∙ argument k l;
           x16 = other address 16 (omega arith) ∙ rw (← u-is) at (a .x16);
           sp = refl;
           saved = holds;

@@ -30,11 +30,11 @@ HelperEnded end = end ≡ end-number EndKind.Helper
 -- ---- the helper's instruction, and what it is called with (document 01, rule 4, and 'Modules in port order', 5)
 
 -- at a PC, from guest bytes of which the first is at start: 32 bits where the low two are 11, else 16
-abbrev pub first : List ℕ → ℕ
-first bs = cond (eqb (Rv64.halfword bs % 4) 3) (Rv64.word bs) (Rv64.halfword bs)
+abbrev pub first-instruction : List ℕ → ℕ
+first-instruction bs = cond (eqb (Rv64.halfword bs % 4) 3) (Rv64.word bs) (Rv64.halfword bs)
 
 abbrev pub instruction : List ℕ → ℕ → ℕ → ℕ
-instruction guest start pc = first (drop (sub pc start) guest)
+instruction guest start pc = first-instruction (drop (sub pc start) guest)
 
 -- the memory helper's operation, by funct3
 abbrev pub loads : Table ℕ
