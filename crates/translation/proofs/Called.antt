@@ -3,15 +3,15 @@ use mathlib.Core.Path.{_≡_, refl, sym, ap, _∙_}
 use mathlib.Core.Bool.{Bool, true, false, cond}
 use mathlib.Core.Logic.{_⊎_, inl, inr}
 use mathlib.Core.List.{List, [], _∷_, _++_, map, append-assoc, append-nil, flatten}
-use mathlib.Core.Option.{Option, none, some}
+use mathlib.Core.Option.{none, some}
 use Prim.Native.Nat.{ℕ, suc, _+_, _-_, _*_, _%_, _^_, _≤_, _<_}
 use native.Mathlib.Omega.{arith}
 use lib.Dec.{eqb, leb, T}
-use lib.ListN.{length, getD, set, drop, length-append, length-set}
+use lib.ListN.{length, getD, drop, length-append}
 use lib.Seq.{getD-set-same, getD-set-other}
 use borrow.Author.Tests.{ne-eqb, le-leb, lt-leb, leb-true}
 use Rattle.rules.specs.Limits.{max-instrs, max-slot-offset}
-use Rattle.word.specs.Word.{wrap, add, sub}
+use Rattle.word.specs.Word.{wrap, sub}
 use Rattle.le.specs.Le.{Bytes, load, store}
 use Rattle.le.proofs.Laws.{load-lt, load-same, load-other, store-below, store-above, length-store}
 use Rattle.le.proofs.Lists.{Fit}
@@ -20,14 +20,12 @@ use Rattle.a64_emitter.specs.Emitter.{bytes}
 use Rattle.a64_emitter.specs.Writers.{str-x, sub-sp-imm, blr, ret}
 use Rattle.a64_run.specs.declared.run.End.{End}
 use Rattle.a64_exec.specs.Exec.{State, reg, with-reg, with-sp, with-mem, exec}
-use Rattle.a64_exec.proofs.Slots.{Slots}
 use Rattle.a64_run.specs.Run as A64
 use Rattle.a64_run.proofs.Straight.{Straight, straight-append, straight-run}
 use Rattle.rv64_run.specs.declared.run.Ran.{Ran}
 use Rattle.rv64_run.specs.Run as Rv64
 use Rattle.emit_native.specs.declared.Host.{Host}
-use Rattle.emit_native.specs.declared.EmitFlow.{EmitFlow}
-use Rattle.emit_native.specs.Calls.{Call, emit, words-in, words, Emission}
+use Rattle.emit_native.specs.Calls.{Call, emit, words-in, words}
 use Rattle.jit_arm64.specs.declared.block.Stop.{Stop}
 use Rattle.jit_arm64.specs.Block.{Walk, fetch, fetch-upper, emit-term-helper, end-calls, block-calls, block-of}
 use Rattle.jit_arm64.specs.Parts.{fence-walk}
@@ -39,11 +37,11 @@ use Rattle.translation.specs.HelperBlock as Spec
 use Rattle.translation.specs.HelperBlock.{lowered, cell, Stack, Beside, Left, Returns, HelperBlock}
 use Rattle.translation.proofs.Registers.{getD-tab, length-tab, tab}
 use Rattle.translation.proofs.Calls.{Model, calls-run, scratch, all-fit, all-keep, AllIn, Kept, calls-kept, real}
-use Rattle.translation.proofs.Moves.{Move, move-call, all-moved, with-r, moves-go, moves-high, moves-small}
+use Rattle.translation.proofs.Moves.{move-call, all-moved, with-r, moves-go, moves-high, moves-small}
 use Rattle.translation.proofs.Instrs.{run-append, fit-append, in-append}
 use Rattle.translation.proofs.Arguments.{restoring, calling, at-each, Arranged, takes32, takes16}
 use Rattle.translation.proofs.Fences.{never}
-use Rattle.translation.proofs.Blocks.{Walks, Taken, Helps, Follow, word-at, wide}
+use Rattle.translation.proofs.Blocks.{Helps, Follow, word-at, wide}
 use Rattle.translation.proofs.Entering.{words-bytes, straight-words, to-return, entered, Begun, kept, begins, block-walks}
 use Rattle.translation.proofs.Calling.{Lowered, saves, Restored, restored}
 use Rattle.translation.proofs.Whole.{count-small}

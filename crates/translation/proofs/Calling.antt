@@ -1,11 +1,11 @@
 -- The words of a helper's call, and those behind it, on the machine. Assumes nothing.
-use mathlib.Core.Path.{_≡_, refl, sym, ap, _∙_}
-use mathlib.Core.Bool.{Bool, true, false, cond}
-use mathlib.Core.List.{List, [], _∷_, _++_, flatten}
+use mathlib.Core.Path.{_≡_, refl, ap, _∙_}
+use mathlib.Core.Bool.{Bool, true, false}
+use mathlib.Core.List.{[], _∷_, _++_, flatten}
 use Prim.Native.Nat.{ℕ, _+_, _*_, _%_, _^_, _≤_, _<_}
 use native.Mathlib.Omega.{arith}
 use lib.Dec.{eqb}
-use lib.ListN.{length, getD, set, length-set}
+use lib.ListN.{length, length-set}
 use lib.Seq.{getD-set-same, getD-set-other}
 use borrow.Author.Tests.{le-leb, eq-eqb, eqb-true}
 use Rattle.word.specs.Word.{wrap, add}
@@ -129,26 +129,32 @@ module _ (o : ℕ) (s : State) (σ : Stack o s) where
 
     by : (n : ℕ) → n < 2 ^ 64 → (c : Bool) → eqb n 0 ≡ c → (u : State) × Restored t u n
     unfolding words-in flatten
-    by n hn true q = (back, record {
-      straight = rw q backs;
-      x0 = beside 0 (λ e. omega arith);
-      x1 = beside 1 (λ e. omega arith) ∙ omega (arith, eqb-true n 0 q);
-      sp = refl;
-      x30 = at30;
-      memory = refl;
-      base = refl;
-      high = λ k a b. beside k (λ e. omega arith);
-    })
-    by n hn false q = (summed n, record {
-      straight = rw q (straight-append (ldr-x 30 31 0 ∷ add-sp-imm 16 ∷ []) (Writers.mov-imm64 12 n ++ (add-x 1 1 12 ∷ [])) t back (summed n) backs (adds n hn));
-      x0 = apart n 0 (λ e. omega arith) (λ e. omega arith) ∙ beside 0 (λ e. omega arith);
-      x1 = getD-set-same (twelve n .x) 1 (add (reg t 1) n) 0 (omega (arith, count12 n));
-      sp = refl;
-      x30 = apart n 30 (λ e. omega arith) (λ e. omega arith) ∙ at30;
-      memory = refl;
-      base = refl;
-      high = λ k a b. apart n k (λ e. omega arith) (λ e. omega arith) ∙ beside k (λ e. omega arith);
-    })
+    by n hn true q = (
+      back,
+      record {
+        straight = rw q backs;
+        x0 = beside 0 (λ e. omega arith);
+        x1 = beside 1 (λ e. omega arith) ∙ omega (arith, eqb-true n 0 q);
+        sp = refl;
+        x30 = at30;
+        memory = refl;
+        base = refl;
+        high = λ k a b. beside k (λ e. omega arith);
+      },
+    )
+    by n hn false q = (
+      summed n,
+      record {
+        straight = rw q (straight-append (ldr-x 30 31 0 ∷ add-sp-imm 16 ∷ []) (Writers.mov-imm64 12 n ++ (add-x 1 1 12 ∷ [])) t back (summed n) backs (adds n hn));
+        x0 = apart n 0 (λ e. omega arith) (λ e. omega arith) ∙ beside 0 (λ e. omega arith);
+        x1 = getD-set-same (twelve n .x) 1 (add (reg t 1) n) 0 (omega (arith, count12 n));
+        sp = refl;
+        x30 = apart n 30 (λ e. omega arith) (λ e. omega arith) ∙ at30;
+        memory = refl;
+        base = refl;
+        high = λ k a b. apart n k (λ e. omega arith) (λ e. omega arith) ∙ beside k (λ e. omega arith);
+      },
+    )
 
     pub restored : (n : ℕ) → n < 2 ^ 64 → (u : State) × Restored t u n
     restored n hn = by n hn (eqb n 0) refl

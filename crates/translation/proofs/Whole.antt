@@ -1,7 +1,7 @@
 -- Demand 3 for the block of a walk, at the limit that FENCE.I leaves. Assumes nothing.
 use mathlib.Core.Path.{_≡_, refl, sym, ap, _∙_}
 use mathlib.Core.Bool.{true, false}
-use mathlib.Core.Logic.{_⊎_, inl, inr}
+use mathlib.Core.Logic.{inl, inr}
 use mathlib.Core.List.{List, [], _∷_, _++_, map, append-assoc, flatten}
 use mathlib.Core.Option.{Option, none, some}
 use Prim.Native.Nat.{ℕ, zero, suc, _+_, _%_, _^_, _≤_, _<_, min}
@@ -27,7 +27,7 @@ use Rattle.jit_arm64.specs.Block.{Walk, size-of, step, instr-walk, walk, end-ca
 use Rattle.jit_arm64.specs.Fence.{fence, limit-at}
 use Rattle.jit_arm64.specs.Parts.{fence-walk}
 use Rattle.jit_arm64.proofs.Emitting.{words-append}
-use Rattle.translation.specs.Demand3.{place, Entry, Ends, Demand3}
+use Rattle.translation.specs.Demand3.{Entry, Ends, Demand3}
 use Rattle.translation.proofs.Registers.{getD-tab}
 use Rattle.translation.proofs.Calls.{Model, calls-run, scratch, all-keep, Kept, calls-kept, real}
 use Rattle.translation.proofs.Moves.{Move, constant, move-call, all-moved, with-r, moves-go}
