@@ -43,7 +43,7 @@ use Rattle.translation.proofs.Arguments.{restoring, calling, at-each, A
 use Rattle.translation.proofs.Fences.{never}
 use Rattle.translation.proofs.Blocks.{Helps, Follow, word-at, wide}
 use Rattle.translation.proofs.Entering.{words-bytes, straight-words, to-return, entered, Begun, kept, begins, block-walks}
-use Rattle.translation.proofs.Calling.{Lowered, saves, Restored, restored}
+use Rattle.translation.proofs.Calling.{Lowered, saves, resumed}
 use Rattle.translation.proofs.Whole.{count-small}
 
 -- ---- the instruction
@@ -251,10 +251,6 @@ module _ (h : Host) (hm : h .«memory_helper» < 2 ^ 64) (h32 : h .helper32 < 2 
 
     -- ---- behind the call
 
-    -- what the words behind it do, from a state with SP and the cell as found
-    behind-call : (t : State) → length (t .x) ≡ 31 → reg t 1 < 2 ^ 64 → Lowered o s σ t → load 8 (t .mem) (cell s) ≡ reg s 30 → (t′ : State) × Restored o s σ t t′ (g .count)
-    behind-call t hc h1 l hv = restored o s σ t l hc h1 hv (g .count) few
-
     as-saved : Lowered o s σ saved
     as-saved = record { sp = refl; base = refl; size = length-store 8 (goes .0) (cell s) (reg passed 30) (omega (arith, at-cell)) ∙ goes .2 .size }
 
@@ -263,8 +259,8 @@ module _ (h : Host) (hm : h .«memory_helper» < 2 ^ 64) (h32 : h .helper32 < 2 
 
     fits-words : Fit 4 (ws ++ (blr 16 ∷ (bs ++ (ret ∷ []))))
     fits-words =
-        let r = behind-call saved (length-tab 31 rs) (small 1 (omega arith)) as-saved holds in
-        straight-words ws _ s saved straight (omega arith, straight-words bs (ret ∷ []) saved (r .0) (r .1 .straight) (omega arith, tt))
+        let r = resumed o s σ saved as-saved (length-tab 31 rs) (small 1 (omega arith)) holds (g .count) few in
+        straight-words ws _ s saved straight (omega arith, straight-words bs (ret ∷ []) saved (r .0) (r .1) (omega arith, tt))
 
     -- ---- both
 
@@ -279,26 +275,16 @@ module _ (h : Host) (hm : h .«memory_helper» < 2 ^ 64) (h32 : h .helper32 < 2 
 
     resumes : (address : ℕ) (t : State) (budget : ℕ) → Left (at-call address) t → length (A64.words block) ≤ suc (length ws) + budget
         → Returns s t (length (A64.words block) - suc (length ws)) (W .count - 1) (A64.from block address (suc (length ws)) budget t)
-    resumes address t budget λt hl =
-        let c : t .sp - t .base ≡ cell s = rw (λt .sp, λt .base) refl in
-        let r = behind-call t (λt .count) (λt .small 1) (record { sp = λt .sp; base = λt .base; size = λt .size ∙ as-saved .size }) (rw c at (λt .saved) ∙ holds) in
+    resumes address t budget left hl =
+        let c : t .sp - t .base ≡ cell s = rw (left .sp, left .base) refl in
+        let l : Lowered o s σ t = record { sp = left .sp; base = left .base; size = left .size ∙ as-saved .size } in
+        let r = resumed o s σ t l (left .count) (left .small 1) (rw c at (left .saved) ∙ holds) (g .count) few in
         let n : length (A64.words block) - suc (length ws) ≡ suc (length bs) = omega (arith, length-is) in
         let p : W .count - 1 ≡ g .count = omega (arith, y .count) in
         let q : A64.from block address (suc (length ws)) budget t ≡ A64.ran End.Returned (suc (length bs)) (r .0) =
-        rw (block-is, behind ws (blr 16) (bs ++ (ret ∷ []))) (to-return bs t (r .0) (r .1 .straight) (address + 4 * suc (length ws)) budget (omega (arith, hl, length-is)))
+        rw (block-is, behind ws (blr 16) (bs ++ (ret ∷ []))) (to-return bs t (r .0) (r .1) (address + 4 * suc (length ws)) budget (omega (arith, hl, length-is)))
         in
-        rw (n, p, q)
-        (record {
-          end = refl;
-          steps = refl;
-          x0 = r .1 .x0;
-          x1 = r .1 .x1;
-          sp = r .1 .sp;
-          x30 = r .1 .x30;
-          memory = r .1 .memory;
-          base = r .1 .base;
-          high = r .1 .high;
-        })
+        rw (n, p, q) (r .2 (suc (length bs)))
 
     calls : (address budget : ℕ) → length (A64.words block) ≤ budget
         → Spec.Calls h guest pc block address s (W .count) (A64.run (A64.words block) address budget 0 s) g

@@ -16,9 +16,11 @@ use Rattle.a64_alu.specs.Alu.{op-value}
 use Rattle.a64_emitter.specs.Writers.{add-x, ldr-x, str-x, sub-sp-imm, add-sp-imm}
 use Rattle.a64_emitter.specs.Writers as Writers
 use Rattle.a64_exec.specs.Exec.{State, reg, with-reg, with-sp, with-mem, reaches, exec, next}
+use Rattle.a64_run.specs.declared.run.End.{End}
+use Rattle.a64_run.specs.Run as A64
 use Rattle.a64_run.proofs.Straight.{Straight, straight-append, one-form}
 use Rattle.emit_native.specs.Calls.{words-in, words}
-use Rattle.translation.specs.HelperBlock.{lowered, cell, Stack}
+use Rattle.translation.specs.HelperBlock.{lowered, cell, Stack, Returns}
 use Rattle.translation.proofs.Constants.{constant-goes}
 use Rattle.translation.proofs.Arguments.{restoring}
 
@@ -63,16 +65,9 @@ module _ (o : ℕ) (s : State) (σ : Stack o s) where
 
   -- ---- behind it
 
-  -- the words that bring X30 and SP back take t to u, with the prefix n added to X1
-  pub record Restored (t u : State) (n : ℕ) : Type 0 where
-    pub straight : Straight (words o (restoring n)) t u
-    pub x0 : reg u 0 ≡ reg t 0
-    pub x1 : reg u 1 ≡ add (reg t 1) n
-    pub sp : u .sp ≡ s .sp
-    pub x30 : reg u 30 ≡ reg s 30
-    pub memory : u .mem ≡ t .mem
-    pub base : u .base ≡ t .base
-    pub high : (k : ℕ) → 18 ≤ k → k ≤ 29 → reg u k ≡ reg t k
+  -- the words that bring X30 and SP back and add the prefix n to X1, from t on; k: how many steps they take with RET
+  abbrev pub Resumes : State → ℕ → Type 0
+  Resumes t n = (u : State) × Straight (words o (restoring n)) t u × ((k : ℕ) → Returns s t k n (A64.ran End.Returned k u))
 
   module _ (t : State) (l : Lowered t) (hc : length (t .x) ≡ 31) (h1 : reg t 1 < 2 ^ 64) (hv : load 8 (t .mem) (cell s) ≡ reg s 30) where
     abbrev back : State
@@ -127,12 +122,14 @@ module _ (o : ℕ) (s : State) (σ : Stack o s) where
         (constant-goes back 12 (omega arith) (omega (arith, count)) n hn)
         (one-form (DataProcessing Add 1 1 12) (twelve n) (summed n) (omega arith) (sums n))
 
-    by : (n : ℕ) → n < 2 ^ 64 → (c : Bool) → eqb n 0 ≡ c → (u : State) × Restored t u n
+    by : (n : ℕ) → n < 2 ^ 64 → (c : Bool) → eqb n 0 ≡ c → Resumes t n
     unfolding words-in flatten
     by n hn true q = (
       back,
-      record {
-        straight = rw q backs;
+      rw q backs,
+      λ k. record {
+        end = refl;
+        steps = refl;
         x0 = beside 0 (λ e. omega arith);
         x1 = beside 1 (λ e. omega arith) ∙ omega (arith, eqb-true n 0 q);
         sp = refl;
@@ -144,8 +141,10 @@ module _ (o : ℕ) (s : State) (σ : Stack o s) where
     )
     by n hn false q = (
       summed n,
-      record {
-        straight = rw q (straight-append (ldr-x 30 31 0 ∷ add-sp-imm 16 ∷ []) (Writers.mov-imm64 12 n ++ (add-x 1 1 12 ∷ [])) t back (summed n) backs (adds n hn));
+      rw q (straight-append (ldr-x 30 31 0 ∷ add-sp-imm 16 ∷ []) (Writers.mov-imm64 12 n ++ (add-x 1 1 12 ∷ [])) t back (summed n) backs (adds n hn)),
+      λ k. record {
+        end = refl;
+        steps = refl;
         x0 = apart n 0 (λ e. omega arith) (λ e. omega arith) ∙ beside 0 (λ e. omega arith);
         x1 = getD-set-same (twelve n .x) 1 (add (reg t 1) n) 0 (omega (arith, count12 n));
         sp = refl;
@@ -156,5 +155,5 @@ module _ (o : ℕ) (s : State) (σ : Stack o s) where
       },
     )
 
-    pub restored : (n : ℕ) → n < 2 ^ 64 → (u : State) × Restored t u n
-    restored n hn = by n hn (eqb n 0) refl
+    pub resumed : (n : ℕ) → n < 2 ^ 64 → Resumes t n
+    resumed n hn = by n hn (eqb n 0) refl
