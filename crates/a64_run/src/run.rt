@@ -25,10 +25,12 @@ pub enum End {
     Called,
 }
 
+// The end, the steps done, SP and the flags after them.
 pub struct Ran {
     pub end: End,
     pub steps: u64,
-    pub state: A64State,
+    pub sp: u64,
+    pub flags: Flags,
 }
 
 // The refusal, or 0 and document 01's number of the end, the steps done and the state after them.
@@ -69,53 +71,61 @@ fn step(
     exec::exec(x, sp, flags, a64::decode(w), memory, base)
 }
 
-fn ended(end: End, steps: u64, state: A64State) -> Ran
-    ensures { λ r. ⌜ (r .end ≡ end) × (r .steps ≡ steps) × (r .state ≡ state) ⌝ }
+fn ended(end: End, steps: u64, sp: u64, flags: Flags) -> Ran
+    ensures { λ r. ⌜ (r .end ≡ end) × (r .steps ≡ steps) × (r .sp ≡ sp) × (r .flags ≡ flags) ⌝ }
 {
-    Ran { end, steps, state }
+    Ran {
+        end,
+        steps,
+        sp,
+        flags,
+    }
 }
 
 // Runs the block's words from the one numbered `first` until one ends the run.
+// The registers are lent: in a state by value they would be copied on the way out.
 fn run_words(
     block: &[u8],
     address: u64,
     first: u64,
-    state: A64State,
+    x: &mut [u64; 31],
+    sp: u64,
+    flags: Flags,
     budget: u64,
     memory: &mut [u8],
     base: u64,
 ) -> Ran
-    ensures { λ r. ⌜ A64.ran (r .end) (r .steps) (A64.at-entry (r .state) base (now (memory .exit))) ≡ A64.from (now (block .entry)) address first budget (A64.at-entry state base (now (memory .entry))) ⌝ }
+    requires { ⌜ length (now x) ≡ 31 ⌝ }
+    ensures { λ r. ⌜ A64.ran (r .end) (r .steps) (machine (now (x .exit)) (r .sp) (r .flags) base (now (memory .exit))) ≡ A64.from (now (block .entry)) address first budget (machine (now (x .entry)) sp flags base (now (memory .entry))) ⌝ }
 {
     let count = (block.len() / 4) as u64;
-    let mut at = state;
+    let mut sp = sp;
+    let mut flags = flags;
     let mut i = first;
     let mut k = 0;
     while i < count {
         if k == budget {
-            return ended(End::Spent, k, at);
+            return ended(End::Spent, k, sp, flags);
         }
-        let sp = at.sp;
-        let flags = at.flags;
-        let r = step(&mut at.x, sp, flags, block, i as usize, memory, base);
-        let flags = r.flags;
-        at.sp = r.sp;
-        at.flags = flags;
+        let r = step(x, sp, flags, block, i as usize, memory, base);
+        sp = r.sp;
+        let after = r.flags;
+        flags = after;
         let outcome = r.outcome;
         match outcome {
             Outcome::Next => {}
-            Outcome::Fault => return ended(End::Fault, k, at),
-            Outcome::Unreadable => return ended(End::Unreadable, k, at),
-            Outcome::Return => return ended(End::Returned, k + 1, at),
+            Outcome::Fault => return ended(End::Fault, k, sp, flags),
+            Outcome::Unreadable => return ended(End::Unreadable, k, sp, flags),
+            Outcome::Return => return ended(End::Returned, k + 1, sp, flags),
             Outcome::Call => {
-                at.x[30] = std::num::wrapping_add_u64(address, 4 * i + 4);
-                return ended(End::Called, k + 1, at);
+                x[30] = std::num::wrapping_add_u64(address, 4 * i + 4);
+                return ended(End::Called, k + 1, sp, flags);
             }
         }
         i += 1;
         k += 1;
     }
-    ended(End::OffEnd, k, at)
+    ended(End::OffEnd, k, sp, flags)
 }
 
 // Whether `len` bytes from `base` on end beyond 2^64.
@@ -142,7 +152,8 @@ fn refused(n: u32, state: A64State) -> Answer
     }
 }
 
-// A64 run from (document 02, No. 5): the words of `block` at `address`, from the one numbered `first`, with `memory` from `base` on.
+// A64 run from (document 02, No. 5): the words of `block` from the one numbered `first`;
+// `address` is that of word 0, and `memory` begins at `base`.
 pub fn a64_run_from(
     block: &[u8],
     address: u64,
@@ -161,8 +172,23 @@ pub fn a64_run_from(
     if past {
         return refused(refusals::MEMORY_EXCEEDS_TOP, state);
     }
-    let ran = run_words(block, address, first, state, budget, memory, base);
-    let after = ran.state;
+    let mut after = state;
+    let sp = after.sp;
+    let flags = after.flags;
+    let ran = run_words(
+        block,
+        address,
+        first,
+        &mut after.x,
+        sp,
+        flags,
+        budget,
+        memory,
+        base,
+    );
+    let flags = ran.flags;
+    after.sp = ran.sp;
+    after.flags = flags;
     let end = ran.end;
     Answer {
         refusal: 0,

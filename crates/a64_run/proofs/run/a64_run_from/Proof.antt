@@ -18,8 +18,8 @@ past c =
 runs : tie.Need-returns-3
 unfolding answered
 runs c =
-    let b = sym (c .before .before .before .before .before .before .before .beyond .ensures) ∙ c .before .before .before .before .before .before .if2 .left in
-    rw (eq-eqb _ _ (c .before .before .before .before .before .before .before .before .if1 .left), b, ← c .before .before .before .before .run-words .ensures, c .end-number .ensures)
+    let b = sym (c .before .before .before .before .before .before .before .before .before .beyond .ensures) ∙ c .before .before .before .before .before .before .before .before .if2 .left in
+    rw (eq-eqb _ _ (c .before .before .before .before .before .before .before .before .before .before .if1 .left), b, ← c .before .before .before .before .run-words .ensures, c .end-number .ensures)
 
 pub a64-run-from-spec : {M : Type 1} → statement M
 a64-run-from-spec =
