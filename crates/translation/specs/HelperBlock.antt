@@ -29,10 +29,11 @@ HelperEnded end = end ≡ end-number EndKind.Helper
 
 -- ---- the helper's instruction, and what it is called with (document 01, rule 4, and 'Modules in port order', 5)
 
--- at a PC, from guest bytes of which the first is at start: 32 bits where the low two are 11, else 16
+-- the instruction that bytes begin with: of 32 bits where its low two are 11, else of 16
 abbrev pub first-instruction : List ℕ → ℕ
 first-instruction bs = cond (eqb (Rv64.halfword bs % 4) 3) (Rv64.word bs) (Rv64.halfword bs)
 
+-- the one at a PC, from guest bytes of which the first is at start
 abbrev pub instruction : List ℕ → ℕ → ℕ → ℕ
 instruction guest start pc = first-instruction (drop (sub pc start) guest)
 
@@ -56,16 +57,18 @@ pub record Call : Type 0 where
   pub helper : ℕ
   pub arguments : List ℕ
 
--- s: the state at the block's entry; w: the instruction, at pc
+-- X1 to X5 into X0 to X4, the instruction w, its PC. s: the state at the block's entry
 abbrev pub general : ℕ → State → ℕ → ℕ → Call
 general helper s w pc =
     record { helper = helper; arguments = reg s 1 ∷ reg s 2 ∷ reg s 3 ∷ reg s 4 ∷ reg s 5 ∷ w ∷ pc ∷ [] }
 
+-- X1 to X3 into X0 to X2, the operation, rd, the value, the address, the PC
 abbrev pub memory : ℕ → State → ℕ → ℕ → ℕ → ℕ → ℕ → Call
 memory helper s operation w value address pc =
     record { helper = helper; arguments = reg s 1 ∷ reg s 2 ∷ reg s 3 ∷ operation ∷ rd w ∷ value ∷ address ∷ pc ∷ [] }
 
--- x: the guest's registers before the instruction. LOAD and STORE go to the memory helper
+-- x: the guest's registers before the instruction. LOAD and STORE have the memory helper, FP loads and stores and AMO the other of
+-- 32 bits. A load's value is 0
 abbrev pub call : Host → State → List ℕ → ℕ → ℕ → Call
 call h s x w pc =
     cond (eqb (w % 4) 3)
@@ -91,7 +94,7 @@ pub record Stack (offset : ℕ) (s : State) : Type 0 where
   -- SP of 64 bits, a multiple of 16
   pub small : s .sp < 2 ^ 64
   pub aligned : s .sp % 16 ≡ 0
-  -- the 16 bytes below it inside memory, and disjoint from every slot
+  -- the 16 bytes below it inside memory, so that they do not pass 2 ^ 64, and disjoint from every slot
   pub inside : (s .base ≤ lowered s) × (lowered s + 16 ≤ s .base + length (s .mem))
   pub apart : (n : ℕ) → n < 32 → (slot s offset n + 8 ≤ lowered s) ⊎ (lowered s + 16 ≤ slot s offset n)
 
