@@ -16,4 +16,5 @@ pub mod Calling
 pub mod Entering
 pub mod Whole
 pub mod Called
+pub mod Examples
 pub mod Translated
