@@ -13,17 +13,24 @@
 #include <ucontext.h>
 #include <unistd.h>
 
+// The most requests, and the most bytes of a request's code and memory; a64.py's, where the compiler is told nothing else.
+#ifndef MOST
+#define MOST 100000
+#define CODE 64
+#define MEMORY 64
+#endif
+
 struct request {
     uint64_t address;
     uint64_t straight; // bytes in front of a BLR or RET
     uint64_t length;   // bytes in all
-    uint8_t code[64];
+    uint8_t code[CODE];
     uint64_t x[31];
     uint64_t sp;
     uint64_t nzcv; // N is bit 3
     uint64_t base;
     uint64_t size; // of memory
-    uint8_t memory[64];
+    uint8_t memory[MEMORY];
 };
 
 struct outcome {
@@ -34,10 +41,10 @@ struct outcome {
     uint64_t nzcv;
     uint64_t outside;    // bytes near the memory that changed
     uint64_t before[31]; // the registers in front of a BLR or RET
-    uint8_t memory[64];
+    uint8_t memory[MEMORY];
 };
 
-enum { MOST = 100000, PAGE = 4096, PAGES = 64, FAILED = 255, AROUND = 0xA5 };
+enum { PAGE = 4096, PAGES = 64, FAILED = 255, AROUND = 0xA5 };
 
 static struct request requests[MOST];
 static struct outcome outcomes[MOST];

@@ -9,13 +9,12 @@ import sys
 from collections import Counter
 from dataclasses import dataclass
 
-from common import EDGES, M64, Random, default, disassemble, machine, pairs, write
+from common import A64, EDGES, M64, RECORDER, Random, default, disassemble, led_to, machine, pairs, write
 
 rng = Random(0x4136_34)
 
 PAGES = [0x7FFF_F000, 0xFFFF_F000, 0x12_3456_7000]  # code; the first two lie on 2^31 and 2^32
 MEMORY = [0x1_8000_0000, 0x7_FFFF_F000, 0x4000]  # the last is near 0: sums pass from 2^64 to it
-RECORDER = range(0x40_0000, 0x100_0000)  # where the recorder's own code stands
 X = range(31)
 ZR = 31
 SP = 31
@@ -320,18 +319,20 @@ while len(cases) < 20_200:
 
 # The machine runs them.
 
+RECORD = A64(64, 64)
+
+
 def request(case):
     code = b"".join(struct.pack("<I", w.word) for w in case.run)
-    straight = len(code) - 4 if case.run[-1].target is not None else len(code)
     registers = [case.inputs.get(r, default(r)) for r in X]
-    return struct.pack("<QQQ64s31QQQQQ64s", case.address, straight, len(code), code, *registers, case.sp, case.nzcv,
-                       case.memory.base, len(case.memory.data), case.memory.data)
+    return RECORD.ask(case.address, code, case.run[-1].target is not None, registers, case.sp, case.nzcv,
+                      case.memory.base, case.memory.data)
 
 
 def record(case, outcome):
     """The case with its outcome, or None where the machine would run on: a call onto itself or into the recorder."""
-    signal, pc, *rest, data = struct.unpack("<QQ31QQQQ31Q64s", outcome)
-    after, sp, nzcv, outside, before = rest[:31], rest[31], rest[32], rest[33], rest[34:]
+    size = len(case.memory.data)
+    signal, pc, after, sp, nzcv, before, data = RECORD.took(outcome, size)
     last = case.run[-1]
     behind = case.address + 4 * len(case.run)
     if last.target is None:
@@ -342,15 +343,12 @@ def record(case, outcome):
         target = before[last.target] if last.target != ZR else 0
         if target == behind - 4 or target in RECORDER:
             return None
-        # Address tagging: user code goes on at the address without its top byte.
-        assert signal in (5, 7, 11) and (pc - target) % 2**56 == 0, (signal, hex(pc), hex(target), case)
-    assert outside == 0, case
-    size = len(case.memory.data)
+        assert led_to(signal, pc, target), (signal, hex(pc), hex(target), case)
     changed = {r: after[r] for r in X if after[r] != case.inputs.get(r, default(r))}
     words = [w.word for w in case.run] + case.tail
     return (struct.pack(f"<B{len(words)}I", len(words), *words) + struct.pack("<QQ", case.address, M64)
             + pairs(case.inputs) + struct.pack("<QBQB", case.sp, case.nzcv, case.memory.base, size) + case.memory.data
-            + pairs(changed) + struct.pack("<QB", sp, nzcv) + data[:size] + struct.pack("<BB", end, len(case.run)))
+            + pairs(changed) + struct.pack("<QB", sp, nzcv) + data + struct.pack("<BB", end, len(case.run)))
 
 
 def check_forms():
@@ -365,7 +363,7 @@ def check_forms():
 def main():
     program, path = sys.argv[1:]
     check_forms()
-    outcomes = machine(program.split(), [request(case) for case in cases], 8 * 67 + 64)
+    outcomes = machine(program.split(), [request(case) for case in cases], RECORD.outcome.size)
     kept = [(case, r) for case, o in zip(cases, outcomes) if (r := record(case, o)) is not None]
     write(path, b"A64CASES", [r for _, r in kept])
     singles = Counter(case.run[0].form for case, _ in kept if len(case.run) == 1)

@@ -4,6 +4,7 @@ import struct
 import subprocess
 
 M64 = 2**64 - 1
+RECORDER = range(0x40_0000, 0x100_0000)  # where a64.c's own code stands
 EDGES = [0, 1, M64, 0x7FFF_FFFF, 0x8000_0000, 0xFFFF_FFFF, 0x1_0000_0000,
          0xFFFF_FFFF_8000_0000, 2**63 - 1, 2**63]
 
@@ -68,6 +69,30 @@ def machine(command, requests, size):
     if len(done.stdout) != size * len(requests):
         raise SystemExit(f"{command}: {len(done.stdout)} bytes for {len(requests)} requests")
     return [done.stdout[i:i + size] for i in range(0, len(done.stdout), size)]
+
+
+class A64:
+    """Requests to the recorder a64.c and its outcomes, by the bytes that it has for code and memory."""
+
+    def __init__(self, code, memory):
+        self.request = struct.Struct(f"<QQQ{code}s31QQQQQ{memory}s")
+        self.outcome = struct.Struct(f"<QQ31QQQQ31Q{memory}s")
+
+    def ask(self, address, code, jumps, x, sp, nzcv, base, memory):
+        """A piece of code; jumps: its last word is a BLR or RET."""
+        straight = len(code) - 4 if jumps else len(code)
+        return self.request.pack(address, straight, len(code), code, *x, sp, nzcv, base, len(memory), memory)
+
+    def took(self, outcome, size):
+        """Signal, PC, X0 to X30, SP, NZCV, the registers in front of a BLR or RET, and the memory; none beside it changed."""
+        signal, pc, *rest, data = self.outcome.unpack(outcome)
+        assert rest[33] == 0
+        return signal, pc, rest[:31], rest[31], rest[32], rest[34:], data[:size]
+
+
+def led_to(signal, pc, target):
+    """Whether a jump to the target trapped there. Address tagging: user code goes on at the address without its top byte."""
+    return signal in (5, 7, 11) and (pc - target) % 2**56 == 0
 
 
 def disassembly(objdump, flags, code):

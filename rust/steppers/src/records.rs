@@ -55,7 +55,7 @@ impl Reader<'_> {
     }
 
     /// [number u8]{register u8, value u64}*number
-    fn registers(&mut self, into: &mut [u64]) {
+    pub fn registers(&mut self, into: &mut [u64]) {
         for _ in 0..self.u8() {
             let register = self.u8();
             into[usize::from(register)] = self.u64();
@@ -69,7 +69,8 @@ impl Reader<'_> {
     }
 }
 
-fn defaults<const N: usize>() -> [u64; N] {
+/// What registers start as where a case does not say.
+pub fn defaults<const N: usize>() -> [u64; N] {
     std::array::from_fn(|i| i as u64 * 0x0101_0101_0101_0101)
 }
 
