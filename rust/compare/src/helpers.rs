@@ -3,6 +3,7 @@
 
 use crate::{question, Compared};
 use draw::case::HelperCase;
+use draw::class::instruction;
 use draw::forms::HELPER_KINDS;
 use draw::guest::Guests;
 use draw::values::{registers, value, Layout, Pool};
@@ -180,12 +181,6 @@ fn call(host: &Host, instr: u32, pc: u64, entry: &[u64; 31], x: &[u64; 32]) -> (
     }
 }
 
-/// The helper's instruction.
-fn instruction(guest: &[u8], at: usize) -> u32 {
-    let size = if guest[at] & 3 == 3 { 4 } else { 2 };
-    guest[at..at + size].iter().rev().fold(0, |instr, &byte| instr << 8 | u32::from(byte))
-}
-
 /// Takes the registers through the prefix by the RV64 stepper: whether it does just that and stands before the helper's
 /// instruction. Where that is the first, it refuses.
 fn does_prefix(guest: &Guest, prefix: u64, pc: u64, x: &mut [u64; 32]) -> bool {
@@ -237,7 +232,8 @@ impl Helpers {
         let (answer, called) = block.run(random, (0, steps), &entry)?;
         let pc = guest.pc.wrapping_add(at as u64);
         let done = does_prefix(guest, block.prefix, pc, &mut x);
-        let (helper, arguments) = call(host, instruction(guest.bytes, at), pc, &entry.state.x, &x);
+        let instr = instruction(&guest.bytes[at..]).expect("the helper's is whole");
+        let (helper, arguments) = call(host, instr, pc, &entry.state.x, &x);
         let mut phrases = block.at_the_call((&entry, &called), &x, (helper, &arguments));
         phrases.push(("called", answer == A64Answer { refusal: 0, end: CALLED, steps }));
         phrases.push(("the count less one instructions, then the helper's", done));

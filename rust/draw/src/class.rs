@@ -12,13 +12,22 @@ pub enum Class {
     Uncovered,
 }
 
-/// The class and the length of the first instruction, if no halfword of it is missing.
-pub fn first(guest: &[u8], ignore_ebreak: bool) -> Option<(Class, usize)> {
+/// The first instruction, of 16 bits or of 32, if no halfword of it is missing.
+pub fn instruction(guest: &[u8]) -> Option<u32> {
     let low = u16::from_le_bytes(*guest.first_chunk()?);
     if low & 3 != 3 {
-        return Some((class16(low, ignore_ebreak), 2));
+        return Some(low.into());
     }
-    Some((class32(u32::from_le_bytes(*guest.first_chunk()?)), 4))
+    Some(u32::from_le_bytes(*guest.first_chunk()?))
+}
+
+/// The class and the length of the first instruction, if no halfword of it is missing.
+pub fn first(guest: &[u8], ignore_ebreak: bool) -> Option<(Class, usize)> {
+    let instr = instruction(guest)?;
+    Some(match instr & 3 {
+        3 => (class32(instr), 4),
+        _ => (class16(instr as u16, ignore_ebreak), 2),
+    })
 }
 
 fn inline(covered: bool) -> Class {

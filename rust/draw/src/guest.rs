@@ -204,6 +204,7 @@ impl Guests {
 #[cfg(test)]
 mod tests {
     use super::*;
+    use crate::class;
     use crate::forms::HELPER_KINDS;
 
     /// The classes of the whole guest's instructions.
@@ -235,7 +236,7 @@ mod tests {
         let mut random = Random(1);
         let kind = |instr: &[u8]| {
             let size = if instr[0] & 3 == 3 { 4 } else { 2 };
-            let number = instr[..size].iter().rev().fold(0, |n, &byte| n << 8 | u32::from(byte));
+            let number = class::instruction(instr).unwrap();
             let is = |&(_, (value, fixed)): &(_, Form)| number & fixed == value;
             let found: Vec<usize> =
                 (0..HELPER_KINDS.len()).filter(|&kind| is(&HELPER_KINDS[kind])).collect();

@@ -2,6 +2,7 @@
 //! (`machines/helpers.py`). Translate answers these words, both A64 runs do what the machine did, and at the call the slots are
 //! the registers of the RV64 run. `machines/README.md` has the record's format.
 
+use draw::class::instruction;
 use draw::forms::HELPER_KINDS;
 use hilofanur::{a64_run, a64_run_from, rv64_run, translate};
 use hilofanur::{A64Run, A64State, End, EndKind, Guest, Host, Refusal, Registers, LONGEST_BLOCK};
@@ -43,11 +44,7 @@ impl Machine {
 }
 
 struct Case {
-    guest: Vec<u8>,
-    pc: u64,
-    limit: u32,
-    ignore_ebreak: bool,
-    host: Host,
+    question: draw::Case,
     count: u32,
     words: Vec<u8>,
     steps: u64,
@@ -63,10 +60,15 @@ struct Case {
 impl Case {
     fn read(r: &mut Reader) -> Case {
         let length = r.u16();
-        let guest = r.bytes(length.into());
-        let (pc, limit, ignore_ebreak) = (r.u64(), r.u32(), r.u8() != 0);
-        let (slot_offset, memory_helper) = (r.u64(), r.u64());
-        let host = Host { slot_offset, memory_helper, helper32: r.u64(), helper16: r.u64() };
+        let question = draw::Case {
+            guest: r.bytes(length.into()),
+            pc: r.u64(),
+            limit: r.u32(),
+            ignore_ebreak: r.u8() != 0,
+            slot_offset: r.u64(),
+            helpers: [(); 3].map(|()| r.u64()),
+            room: LONGEST_BLOCK,
+        };
         let (count, number, steps) = (r.u8().into(), usize::from(r.u16()), r.u16().into());
         let words = r.bytes(4 * number);
         let (address, base, slots) = (r.u64(), r.u64(), r.u16().into());
@@ -79,23 +81,7 @@ impl Case {
         let called = entry.after(r);
         let left = called.left(base, r);
         let returned = left.after(r);
-        Case {
-            guest,
-            pc,
-            limit,
-            ignore_ebreak,
-            host,
-            count,
-            words,
-            steps,
-            address,
-            base,
-            slots,
-            entry,
-            called,
-            left,
-            returned,
-        }
+        Case { question, count, words, steps, address, base, slots, entry, called, left, returned }
     }
 
     /// Runs the words from the one numbered `first` on, as the machine did.
@@ -128,18 +114,20 @@ impl Case {
             }
         };
         assert_eq!(registers, self.slots(&self.called));
-        let size = if guest.bytes[at] & 3 == 3 { 4 } else { 2 };
-        let bytes = guest.bytes[at..at + size].iter().rev();
-        let instr = bytes.fold(0, |instr, &byte| instr << 8 | u32::from(byte));
+        let instr = instruction(&guest.bytes[at..]).unwrap();
         HELPER_KINDS.iter().position(|&(_, (value, fixed))| instr & fixed == value).unwrap()
     }
 
     /// Holds all that was recorded to the operations: the kind of the helper's instruction.
     fn hold(&self) -> usize {
-        let Case { ref guest, pc, limit, ignore_ebreak, steps, .. } = *self;
+        let draw::Case { guest, pc, limit, ignore_ebreak, slot_offset, helpers, room } =
+            &self.question;
+        let (pc, limit, ignore_ebreak, steps) = (*pc, *limit, *ignore_ebreak, self.steps);
         let guest = Guest { bytes: guest, pc, limit, ignore_ebreak };
-        let mut output = [0; LONGEST_BLOCK];
-        let block = translate(&guest, &self.host, &mut output).unwrap();
+        let (slot_offset, [memory_helper, helper32, helper16]) = (*slot_offset, *helpers);
+        let host = Host { slot_offset, memory_helper, helper32, helper16 };
+        let mut output = vec![0; *room];
+        let block = translate(&guest, &host, &mut output).unwrap();
         assert_eq!((block.count, block.end), (self.count, EndKind::Helper), "{guest:x?}");
         assert_eq!(output[..block.length], self.words, "{guest:x?}");
         let called = (Ok(A64Run { end: End::Called, steps }), self.called.clone());

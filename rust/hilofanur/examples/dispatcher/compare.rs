@@ -3,6 +3,7 @@
 use super::code::HOST;
 use super::host::{Machine, Running, BASE, SIZE, SLOTS, SP};
 use super::memory::Access;
+use draw::class;
 use hilofanur::{rv64_run, A64Run, End, Guest, Refusal, Registers};
 use std::ops::Range;
 
@@ -144,12 +145,7 @@ impl<'a> Run<'a> {
 /// The instruction at a PC of the guest's bytes, 16 bits or 32; beyond them 0.
 pub fn instruction(guest: &Guest, pc: u64) -> u32 {
     let at = usize::try_from(pc.wrapping_sub(guest.pc)).unwrap_or(usize::MAX);
-    let bytes = guest.bytes.get(at..).unwrap_or(&[]);
-    match (bytes.first_chunk(), bytes.first_chunk()) {
-        (Some(&low), _) if low[0] & 3 != 3 => u16::from_le_bytes(low).into(),
-        (_, Some(&word)) => u32::from_le_bytes(word),
-        _ => 0,
-    }
+    guest.bytes.get(at..).and_then(class::instruction).unwrap_or(0)
 }
 
 #[cfg(test)]
