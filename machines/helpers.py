@@ -15,7 +15,7 @@ rng = Random(0x4845_4C50)
 
 CODE, MEMORY = 7680, 512  # the most bytes of each
 PAGES = [0x7FFF_F000, 0xFFFF_F000, 0x12_3456_7000]  # of the words; the first two end at 2^31 and 2^32
-HIGH = [0x1_8000_0000, 0x7_FFFF_F000, 0x7F_FFFF_0000]  # where memory lies
+BASES = [0x1_8000_0000, 0x7_FFFF_F000, 0x7F_FFFF_0000]  # of memory
 BLR_X16, RET = 0xD63F_0200, 0xD65F_03C0
 RECORD = A64(CODE, MEMORY)
 
@@ -67,7 +67,7 @@ class Case:
         self.address = rng.pick(PAGES) + 4 * rng.below(100)
         gap, around = 8 * rng.pick((0, 0, 1, rng.below(8))), rng.pick((0, 0, rng.below(24)))
         slots, stack = rng.pick(((16 + gap, 0), (0, 256 + gap)))
-        first = (rng.pick(HIGH) + 4096 + stack & -16) - stack
+        first = (rng.pick(BASES) + 4096 + stack & -16) - stack
         self.base, self.slots = first - around, slots + around
         registers = [0] + [rng.value() for _ in range(31)]
         data = bytearray(rng.below(256) for _ in range(around + 272 + gap + around))
