@@ -12,7 +12,6 @@
  *    6  the output is shorter than the block's bytes
  *    7  used exceeds the store
  *    8  the start plus the code length exceeds the store
- *    9  register 0 not zero
  *   10  block length not a multiple of 4
  *   11  memory base plus memory length exceeds 2^64
  *   12  block length not a multiple of 4 or above 2^32
@@ -27,21 +26,21 @@
  *
  * How a block is called, on an Arm processor or by A64 run: from word 0, with X30 the address to return to and X0 such
  * that register n has its slot, eight little-endian bytes, at X0 plus slot_offset plus 8n, a multiple of 8. The slots are
- * in memory and apart from the block's words; slot 0 holds 0.
+ * in memory and apart from the block's words. Slot 0 may hold anything: it is neither read nor written.
  *
- * A block that no helper ends returns by RET with X0 the next guest PC and X1 the guest instructions done; the slots hold
- * the registers. X9 to X17 and NZCV are lost; X2 to X8, X18 to X30, SP and all other memory are as they were.
+ * A block that no helper ends returns by RET with X0 the next guest PC and X1 the guest instructions done; slots 1 to 31
+ * hold the registers. X9 to X17 and NZCV are lost; X2 to X8, X18 to X30, SP and all other memory are as they were.
  *
  * A block that a helper ends calls it by BLR X16. At its entry SP is a multiple of 16, and the 16 bytes below SP (modulo
- * 2^64, so SP may be 0) are in memory and apart from the slots and the block's words. The helper finds the slots with the
- * registers before its instruction, and:
+ * 2^64, so SP may be 0) are in memory and apart from the slots and the block's words. The helper finds slots 1 to 31
+ * with the registers before its instruction, and:
  *   memory helper:     X0 to X2 what the caller had in X1 to X3, X3 the operation (0 to 6: LB LH LW LD LBU LHU LWU, 16 to
  *                      19: SB SH SW SD), X4 bits 11 to 7 of the instruction (rd), X5 the value to store or 0, X6 the
  *                      address, X7 the instruction's PC
  *   the other helpers: X0 to X4 what the caller had in X1 to X5, X5 the instruction, X6 its PC
  *   each helper:       X16 its own address, SP 16 lower than at the block's entry, the eight bytes at SP the X30 of that
- *                      entry, X30 the address of the word behind the call; X18 to X29, and all memory outside the slots
- *                      and those 16 bytes, as at that entry
+ *                      entry, X30 the address of the word behind the call; X18 to X29, slot 0, and all memory outside the
+ *                      slots and those 16 bytes, as at that entry
  * It may change X0 to X30, NZCV, and all memory but the eight bytes at SP and the block's words. It leaves these and SP as
  * it found them, and returns to the address that it found in X30, with X0 the next guest PC and X1 the guest instructions
  * that it did. Then the block returns with X0 the helper's X0, X1 the helper's X1 plus the block's count less one, modulo
@@ -119,7 +118,7 @@ struct hilofanur_rv64_run_answer {
 
 /* RV64 run: does the guest's block on the registers, as the ISA says. It stops where translation would, behind FENCE.I
  * too, which is counted, and before a helper instruction. registers: HILOFANUR_REGISTERS bytes, each register
- * little-endian. Refusals 2 to 5 and 9.
+ * little-endian; register 0's are read as 0, whatever they are, and come back as 0. Refusals 2 to 5.
  */
 struct hilofanur_rv64_run_answer hilofanur_rv64_run(
     const uint8_t *guest, size_t guest_length, uint64_t pc, uint32_t limit, bool ignore_ebreak, uint8_t *registers);

@@ -13,7 +13,7 @@ use Rattle.rules.specs.Limits.{instr-words, max-words}
 use Rattle.le.specs.Parts.{over}
 use Rattle.le.proofs.Lists.{length-all-bytes}
 use Rattle.a64_emitter.specs.Parts.{emitted-in, emitted, emitted-all, written, Written}
-use Rattle.a64_emitter.specs.Writers.{part, movk, mov-imm64}
+use Rattle.a64_emitter.specs.Writers.{part, movz, movk, mov-imm64}
 use Rattle.a64_emitter.specs.Emitter.{bytes}
 
 -- words that fit are added
@@ -141,7 +141,7 @@ movk-most rd hw p = cond-most (eqb p 0) (0xF2800000 + hw * 2 ^ 21 + p * 2 ^ 5 + 
 
 -- the groups of a constant, and how many words they are
 abbrev pub parts : ℕ → ℕ → List (List ℕ)
-parts rd v = ((0xD2800000 + v % 65536 * 2 ^ 5 + rd) ∷ []) ∷ movk rd 1 (part v 1) ∷ movk rd 2 (part v 2) ∷ movk rd 3 (part v 3) ∷ []
+parts rd v = (movz rd (v % 65536) ∷ []) ∷ movk rd 1 (part v 1) ∷ movk rd 2 (part v 2) ∷ movk rd 3 (part v 3) ∷ []
 
 constant-parts : (rd v : ℕ) → mov-imm64 rd v ≡ flatten (parts rd v)
 unfolding mov-imm64 flatten

@@ -79,8 +79,11 @@ ret = 0xD65F03C0
 abbrev pub part : ℕ → ℕ → ℕ
 part val hw = val / 2 ^ (hw * 16) % 65536
 
+abbrev pub movz : ℕ → ℕ → ℕ
+movz rd part = 0xD2800000 + part * 2 ^ 5 + rd
+
 unfoldable pub movk : ℕ → ℕ → ℕ → List ℕ
 movk rd hw part = cond (eqb part 0) [] ((0xF2800000 + hw * 2 ^ 21 + part * 2 ^ 5 + rd) ∷ [])
 
 unfoldable pub mov-imm64 : ℕ → ℕ → List ℕ
-mov-imm64 rd val = (0xD2800000 + val % 65536 * 2 ^ 5 + rd) ∷ (movk rd 1 (part val 1) ++ (movk rd 2 (part val 2) ++ movk rd 3 (part val 3)))
+mov-imm64 rd val = movz rd (val % 65536) ∷ (movk rd 1 (part val 1) ++ (movk rd 2 (part val 2) ++ movk rd 3 (part val 3)))

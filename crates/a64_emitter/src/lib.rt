@@ -84,7 +84,7 @@ fn mov_imm64_at(words: &mut [u32; INSTR_WORDS], at: usize, rd: u8, val: u64) -> 
     if INSTR_WORDS - n < at {
         return at;
     }
-    let a = emit_at(words, at, 0xD280_0000 + lo * 32 + rd as u32);
+    let a = emit_at(words, at, A64Emitter::movz(rd, lo));
     let b = upper_at(words, a, rd, 1, p1);
     let c = upper_at(words, b, rd, 2, p2);
     upper_at(words, c, rd, 3, p3)

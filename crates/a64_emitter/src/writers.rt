@@ -169,6 +169,14 @@ impl A64Emitter {
         0x9340_7C00 + (rn as u32) * 32 + rd as u32
     }
 
+    // MOVZ Xd, #part, the first word of a constant.
+    pub fn movz(rd: u8, part: u32) -> u32
+        requires { ⌜ (rd < 32) × (part < 65536) ⌝ }
+        ensures { λ r. ⌜ r ≡ Writers.movz rd part ⌝ }
+    {
+        0xD280_0000 + part * 32 + rd as u32
+    }
+
     // The literal RET of the block's end.
     pub fn ret() -> u32
         ensures { λ r. ⌜ r ≡ Writers.ret ⌝ }

@@ -9,7 +9,7 @@ use lib.ListN.{length, length-append}
 use Rattle.a64_emitter.proofs.Emission.{constant-most}
 use Rattle.emit_native.specs.declared.EmitFlow.{EmitFlow}
 use Rattle.emit_native.specs.declared.EmitFlow.the-variants.{Continue, Terminate, None}
-use Rattle.emit_native.specs.Calls.{Call, emit, mov-imm64, load, store, rust, call-words, groups, if-not-0, store-rd, Emission, calls-first, then-store-rd}
+use Rattle.emit_native.specs.Calls.{Call, emit, mov-imm64, load, store, product, call-words, groups, if-not-0, store-rd, Emission, calls-first, then-store-rd}
 
 abbrev pub size : ℕ → List Call → ℕ
 size slot-offset cs = length (flatten (groups slot-offset cs))
@@ -31,15 +31,15 @@ by true f g = f refl
 by false f g = g refl
 
 module _ (slot-offset : ℕ) where
-  call-size : (c : Call) → length (call-words rust slot-offset c) ≤ cost c
+  call-size : (c : Call) → length (call-words product slot-offset c) ≤ cost c
   call-size (emit f) = omega arith
   call-size (mov-imm64 rd v) = constant-most rd v
   call-size (load rt n) = omega arith
   call-size (store rt n) = omega arith
 
-  size-cons : (c : Call) (cs : List Call) → size slot-offset (c ∷ cs) ≡ length (call-words rust slot-offset c) + size slot-offset cs
+  size-cons : (c : Call) (cs : List Call) → size slot-offset (c ∷ cs) ≡ length (call-words product slot-offset c) + size slot-offset cs
   unfolding flatten
-  size-cons c cs = length-append (call-words rust slot-offset c) (flatten (groups slot-offset cs))
+  size-cons c cs = length-append (call-words product slot-offset c) (flatten (groups slot-offset cs))
 
   pub size-append : (cs ds : List Call) → size slot-offset (cs ++ ds) ≡ size slot-offset cs + size slot-offset ds
   unfolding flatten

@@ -3,7 +3,7 @@ use Prim.Native.Nat.{ℕ, _+_, _*_}
 use mathlib.Core.Bool.{cond}
 use mathlib.Core.List.{List, [], _∷_, _++_, map, flatten}
 use lib.Dec.{eqb}
-use Rattle.a64_emitter.specs.Writers.{ldr-x, str-x}
+use Rattle.a64_emitter.specs.Writers.{ldr-x, str-x, movz}
 use Rattle.a64_emitter.specs.Writers as Writers
 use Rattle.emit_native.specs.declared.EmitFlow.{EmitFlow}
 use Rattle.emit_native.specs.declared.EmitFlow.the-variants.{Continue, Terminate, None}
@@ -22,12 +22,14 @@ pub data Call : Type 0 where
 abbrev pub reg-off : ℕ → ℕ → ℕ
 reg-off slot-offset n = slot-offset + 8 * n
 
--- how calls are read: as the Rust does
+-- how calls are read: as the Rust does, or as the product does, whose load of register 0 is MOVZ with 0 (document 02, No. 6)
 pub data Dialect : Type 0 where
   rust : Dialect
+  product : Dialect
 
 abbrev pub load-word : Dialect → ℕ → ℕ → ℕ → ℕ
 load-word rust slot-offset rt n = ldr-x rt 0 (reg-off slot-offset n)
+load-word product slot-offset rt n = cond (eqb n 0) (movz rt 0) (ldr-x rt 0 (reg-off slot-offset n))
 
 -- the words that a call adds
 abbrev pub call-words : Dialect → ℕ → Call → List ℕ
@@ -43,12 +45,12 @@ groups-in d slot-offset cs = map (call-words d slot-offset) cs
 unfoldable pub words-in : Dialect → ℕ → List Call → List ℕ
 words-in d slot-offset cs = flatten (groups-in d slot-offset cs)
 
--- as the translator reads them
+-- as the product reads them
 abbrev pub groups : ℕ → List Call → List (List ℕ)
-groups slot-offset cs = groups-in rust slot-offset cs
+groups slot-offset cs = groups-in product slot-offset cs
 
 abbrev pub words : ℕ → List Call → List ℕ
-words slot-offset cs = words-in rust slot-offset cs
+words slot-offset cs = words-in product slot-offset cs
 
 -- `if n != 0 { .. }`
 abbrev pub if-not-0 : ℕ → List Call → List Call

@@ -4,7 +4,7 @@ ghost use mathlib.Core.List.{[], _∷_};
 ghost use Prim.Native.Nat.{_<_, _≤_};
 ghost use Rattle.rules.specs.Limits.{max-slot-offset};
 ghost use Rattle.a64_emitter.specs.Parts.{held, emitted, emitted-all};
-ghost use Rattle.emit_native.specs.Calls.{Call, Dialect, call-words, groups, reg-off, if-not-0, store-rd};
+ghost use Rattle.emit_native.specs.Calls.{Call, Dialect, load-word, call-words, groups, reg-off, if-not-0, store-rd};
 ghost use Rattle.emit_native.specs.Parts.{stores, Answers};
 use crate::EmitFlow;
 use crate::Emitted;
@@ -19,18 +19,29 @@ fn reg_off(slot_offset: u64, n: u8) -> u16
     (slot_offset + 8 * (n as u64)) as u16
 }
 
+// The word of a load: MOVZ with 0 for register 0, whose slot is never read (document 02, No. 6).
+fn load_word(slot_offset: u64, rt: u8, n: u8) -> u32
+    requires { ⌜ («slot_offset» ≤ max-slot-offset) × (rt < 32) × (n < 32) ⌝ }
+    ensures { λ r. ⌜ r ≡ load-word Dialect.product «slot_offset» rt n ⌝ }
+{
+    if n == 0 {
+        return A64Emitter::movz(rt, 0);
+    }
+    A64Emitter::ldr_x(rt, 0, reg_off(slot_offset, n))
+}
+
 // Guest register n into Xt.
 pub fn load(em: InstrEmitter, slot_offset: u64, rt: u8, n: u8) -> InstrEmitter
     requires { ⌜ («slot_offset» ≤ max-slot-offset) × (rt < 32) × (n < 32) ⌝ }
-    ensures { λ r. ⌜ held r ≡ emitted (held em) (call-words Dialect.rust «slot_offset» (Call.load rt n)) ⌝ }
+    ensures { λ r. ⌜ held r ≡ emitted (held em) (call-words Dialect.product «slot_offset» (Call.load rt n)) ⌝ }
 {
-    em.emit(A64Emitter::ldr_x(rt, 0, reg_off(slot_offset, n)))
+    em.emit(load_word(slot_offset, rt, n))
 }
 
 // Xt into guest register n.
 pub fn store(em: InstrEmitter, slot_offset: u64, rt: u8, n: u8) -> InstrEmitter
     requires { ⌜ («slot_offset» ≤ max-slot-offset) × (rt < 32) × (n < 32) ⌝ }
-    ensures { λ r. ⌜ held r ≡ emitted (held em) (call-words Dialect.rust «slot_offset» (Call.store rt n)) ⌝ }
+    ensures { λ r. ⌜ held r ≡ emitted (held em) (call-words Dialect.product «slot_offset» (Call.store rt n)) ⌝ }
 {
     em.emit(A64Emitter::str_x(rt, 0, reg_off(slot_offset, n)))
 }

@@ -19,7 +19,7 @@ use Rattle.emit_native.specs.declared.Host.{Host}
 use Rattle.isa.specs.Isa.{OPCODE-LOAD, OPCODE-STORE, OPCODE-LOAD-FP, OPCODE-STORE-FP, OPCODE-SYSTEM, OPCODE-AMO, F3-LB, F3-LH, F3-LW, F3-LD, F3-LBU, F3-LHU, F3-LWU, F3-SB, F3-SH, F3-SW, F3-SD}
 use Rattle.isa.specs.Decode.{decode32, c-op, c-funct3, imm-i, imm-s}
 use Rattle.a64_emitter.specs.Writers.{add-x, ldr-x, str-x, mov-x, sub-sp-imm, add-sp-imm, blr, ret}
-use Rattle.emit_native.specs.Calls.{Call, emit, mov-imm64, load, rust, call-words, groups, words-in, words, if-not-0, Emission, none}
+use Rattle.emit_native.specs.Calls.{Call, emit, mov-imm64, load, product, call-words, groups, words-in, words, if-not-0, Emission, none}
 use Rattle.emit_native.specs.Parts.{Emits}
 use Rattle.instr16.specs.Instr16.{emit-native-instr16, quadrant-0, quadrant-2}
 use Rattle.instr32.specs.Instr32.{emit-native-instr}
@@ -36,8 +36,8 @@ pub words-append : (slot-offset : ℕ) (cs ds : List Call) → words slot-offset
 unfolding words-in flatten
 words-append slot-offset [] ds = refl
 words-append slot-offset (c ∷ cs) ds =
-    ap (λ (l : List ℕ). call-words rust slot-offset c ++ l) (words-append slot-offset cs ds)
-    ∙ sym (append-assoc (call-words rust slot-offset c) (words slot-offset cs) (words slot-offset ds))
+    ap (λ (l : List ℕ). call-words product slot-offset c ++ l) (words-append slot-offset cs ds)
+    ∙ sym (append-assoc (call-words product slot-offset c) (words slot-offset cs) (words slot-offset ds))
 
 -- the words ws after the first n of l: then the first r of l′
 pub record Appended (l : List ℕ) (n : ℕ) (l′ : List ℕ) (r : ℕ) (ws : List ℕ) : Type 0 where

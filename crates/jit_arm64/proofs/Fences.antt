@@ -11,7 +11,7 @@ use Rattle.rules.specs.Limits.{max-instrs}
 use Rattle.word.specs.Word.{add}
 use Rattle.isa.specs.Formats.{funct3}
 use Rattle.emit_native.specs.declared.Host.{Host}
-use Rattle.emit_native.specs.Calls.{continue}
+use Rattle.emit_native.specs.Calls.{Dialect, continue}
 use Rattle.emit_native.proofs.Size.{by}
 use Rattle.instr32.specs.Instr32.{misc-mem, emit-native-instr}
 use Rattle.jit_arm64.specs.Block.{fetch, is-32, size-of, emit-native, Walk, walk, whole-walk, block-of, compile-native-block}
@@ -105,8 +105,8 @@ module _ (most : ℕ) (h : Host) (guest : List ℕ) (pc : ℕ) where
   same-zero zero = rw at-zero refl
   same-zero (suc limit) = by-limit limit _ refl
 
-pub no-block-with-fence : (most : ℕ) (h : Host) (guest : List ℕ) (pc limit : ℕ) → pc < 2 ^ 64
-    → compile-native-block (suc most) h guest pc (limit-at (fence (suc most) h guest pc limit) limit)
-    ≡ cond (refuses h guest pc limit) none (some (block-of h (fence-walk (suc most) h guest pc limit)))
-no-block-with-fence most h guest pc limit l =
-    no-block-is most h guest pc (limit-at (fence (suc most) h guest pc limit) limit) l ∙ rw (same-zero (suc most) h guest pc limit) refl
+pub no-block-with-fence : (d : Dialect) (most : ℕ) (h : Host) (guest : List ℕ) (pc limit : ℕ) → pc < 2 ^ 64
+    → compile-native-block d (suc most) h guest pc (limit-at (fence (suc most) h guest pc limit) limit)
+    ≡ cond (refuses h guest pc limit) none (some (block-of d h (fence-walk (suc most) h guest pc limit)))
+no-block-with-fence d most h guest pc limit l =
+    no-block-is d most h guest pc (limit-at (fence (suc most) h guest pc limit) limit) l ∙ rw (same-zero (suc most) h guest pc limit) refl

@@ -11,7 +11,7 @@ use Rattle.word.specs.Word.{add}
 use Rattle.emit_native.specs.declared.Host.{Host}
 use Rattle.emit_native.specs.declared.EmitFlow.{EmitFlow}
 use Rattle.emit_native.specs.declared.EmitFlow.the-variants.{Continue, Terminate, None}
-use Rattle.emit_native.specs.Calls.{Call, Emission}
+use Rattle.emit_native.specs.Calls.{Call, Dialect, Emission}
 use Rattle.emit_native.proofs.Size.{by}
 use Rattle.jit_arm64.specs.Block.{Walk, fetch, is-missing, size-of, helped, step, instr-walk, walk, whole-walk, block-of, compile-native-block}
 use Rattle.jit_arm64.specs.Parts.{neither, is-uncovered}
@@ -102,8 +102,8 @@ none-emitted most h guest pc limit l =
     by-first most h guest pc limit ∙ ap (λ (b : Bool). eqb limit 0 || b) (ap (first h guest) e ∙ o)
 
 -- no block exactly where one of them applies
-pub no-block-is : (most : ℕ) (h : Host) (guest : List ℕ) (pc limit : ℕ) → pc < 2 ^ 64
-    → compile-native-block (suc most) h guest pc limit
-    ≡ cond (refuses h guest pc limit) none (some (block-of h (whole-walk (suc most) h guest pc limit)))
+pub no-block-is : (d : Dialect) (most : ℕ) (h : Host) (guest : List ℕ) (pc limit : ℕ) → pc < 2 ^ 64
+    → compile-native-block d (suc most) h guest pc limit
+    ≡ cond (refuses h guest pc limit) none (some (block-of d h (whole-walk (suc most) h guest pc limit)))
 unfolding compile-native-block
-no-block-is most h guest pc limit l = rw (none-emitted most h guest pc limit l)
+no-block-is d most h guest pc limit l = rw (none-emitted most h guest pc limit l)

@@ -14,7 +14,7 @@ use Rattle.jit_arm64.specs.declared.block.Stop.{Stop}
 use Rattle.jit_arm64.specs.declared.block.Stop.the-variants.{Limit, Ended, Helper, Uncovered, NotFetched}
 use Rattle.a64_emitter.specs.Writers.{ret}
 use Rattle.a64_emitter.specs.Emitter.{bytes}
-use Rattle.emit_native.specs.Calls.{Call, emit, mov-imm64, words, Emission}
+use Rattle.emit_native.specs.Calls.{Call, Dialect, emit, mov-imm64, words-in, Emission}
 use Rattle.isa.specs.Decode.{decode32}
 use Rattle.instr16.specs.Instr16.{emit-native-instr16}
 use Rattle.instr32.specs.Instr32.{emit-native-instr}
@@ -130,11 +130,12 @@ pub record Block : Type 0 where
   pub count : ℕ
   pub stop : Stop
 
-abbrev pub block-of : Host → Walk → Block
-block-of h w = record { code = bytes (words (h .«slot_offset») (block-calls w)); count = w .count; stop = w .stop }
+-- d: how its calls are read; the Rust's is rust
+abbrev pub block-of : Dialect → Host → Walk → Block
+block-of d h w = record { code = bytes (words-in d (h .«slot_offset») (block-calls w)); count = w .count; stop = w .stop }
 
 -- no block where nothing was emitted
-unfoldable pub compile-native-block : ℕ → Host → List ℕ → ℕ → ℕ → Option Block
-compile-native-block most h guest pc limit =
+unfoldable pub compile-native-block : Dialect → ℕ → Host → List ℕ → ℕ → ℕ → Option Block
+compile-native-block d most h guest pc limit =
     let w = whole-walk most h guest pc limit in
-    cond (eqb (w .count) 0) none (some (block-of h w))
+    cond (eqb (w .count) 0) none (some (block-of d h w))

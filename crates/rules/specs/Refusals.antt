@@ -36,9 +36,7 @@ used-exceeds-store = 7
 abbrev pub code-exceeds-store : ℕ
 code-exceeds-store = 8
 
--- register 0 not zero
-abbrev pub register-zero : ℕ
-register-zero = 9
+-- 9 is free, and stays so: document 02, No. 6
 
 -- block length not a multiple of 4
 abbrev pub block-length : ℕ

@@ -15,8 +15,6 @@ pub const USED_EXCEEDS_STORE: u32 = 7;
 
 pub const CODE_EXCEEDS_STORE: u32 = 8;
 
-pub const REGISTER_ZERO: u32 = 9;
-
 pub const BLOCK_LENGTH: u32 = 10;
 
 pub const MEMORY_EXCEEDS_TOP: u32 = 11;

@@ -34,21 +34,28 @@ marked : (at1 (0x01 ∷ 0x00 ∷ []) 0 1 ≡ ran zeros 0x1002 1)
 unfolding zeros ran at1 Rv64.answer Rv64.answer-of Rv64.refusal-of Rv64.refusal-first Rv64.number Rv64.run Rv64.step Rv64.onward Rv64.fetch load X.exec X.covered X.read X.write N.value D.decode32 D.by-class class-of D.below C.decode16 C.quadrants C.quadrant1 C.table1 C.quadrant2 C.table2 C.unless0 C.misc-alu C.misc-alus C.arith C.ariths C.cr C.crs C.jr-mv C.ebreak-jalr-add
 marked = (refl, refl, refl, refl, refl, refl, refl)
 
--- refusals, lowest first
-refused : List ℕ → ℕ → ℕ → ℕ → ℕ
-refused guest pc limit x0 = Rv64.number (Rv64.answer guest (Rv64.hart (set zeros 0 x0) pc) limit false .refusal)
+-- register 0's entry, whatever it is, is read as 0 and comes back as 0: c.li x10, -1, which adds to register 0, and c.nop
+from-entry : List ℕ → Answer
+from-entry guest = Rv64.answer guest (Rv64.hart (set zeros 0 0xDEADBEEF) 0x1000) 1 false
 
-refusals : (refused [] 0x1001 0 1 ≡ 2)
-    × (refused [] 0x1001 1 1 ≡ 3)
-    × (refused (0x03 ∷ 0x00 ∷ []) 0x1000 1 1 ≡ 4)
-    × (refused (0x01 ∷ []) 0x1000 1 0 ≡ 4)
-    × (refused (0x41 ∷ 0x9C ∷ []) 0x1000 1 1 ≡ 5)
-    × (refused (0x00 ∷ 0x00 ∷ []) 0x1000 1 0 ≡ 5)
-    × (refused (0x73 ∷ 0x00 ∷ 0x00 ∷ 0x00 ∷ []) 0x1000 1 0 ≡ 5)
-    × (refused (0x03 ∷ 0x20 ∷ 0x00 ∷ 0x00 ∷ []) 0x1000 1 0 ≡ 5)
-    × (refused (0x01 ∷ 0x00 ∷ []) 0x1000 1 1 ≡ 9)
+register-0 : (from-entry (0x7D ∷ 0x55 ∷ []) ≡ ran (set zeros 10 (2 ^ 64 - 1)) 0x1002 1) × (from-entry (0x01 ∷ 0x00 ∷ []) ≡ ran zeros 0x1002 1)
+unfolding zeros ran from-entry Rv64.answer Rv64.answer-of Rv64.refusal-of Rv64.refusal-first Rv64.number Rv64.run Rv64.step Rv64.onward Rv64.fetch load X.exec X.covered X.read X.write N.value C.decode16 C.quadrants C.quadrant1 C.table1
+register-0 = (refl, refl)
+
+-- refusals, lowest first
+refused : List ℕ → ℕ → ℕ → ℕ
+refused guest pc limit = Rv64.number (Rv64.answer guest (Rv64.hart zeros pc) limit false .refusal)
+
+refusals : (refused [] 0x1001 0 ≡ 2)
+    × (refused [] 0x1001 1 ≡ 3)
+    × (refused (0x03 ∷ 0x00 ∷ []) 0x1000 1 ≡ 4)
+    × (refused (0x01 ∷ []) 0x1000 1 ≡ 4)
+    × (refused (0x41 ∷ 0x9C ∷ []) 0x1000 1 ≡ 5)
+    × (refused (0x00 ∷ 0x00 ∷ []) 0x1000 1 ≡ 5)
+    × (refused (0x73 ∷ 0x00 ∷ 0x00 ∷ 0x00 ∷ []) 0x1000 1 ≡ 5)
+    × (refused (0x03 ∷ 0x20 ∷ 0x00 ∷ 0x00 ∷ []) 0x1000 1 ≡ 5)
 unfolding zeros refused Rv64.answer Rv64.answer-of Rv64.refusal-of Rv64.refusal-first Rv64.number Rv64.fetch load X.covered D.decode32 D.by-class class-of D.below C.decode16 C.quadrants C.quadrant0 C.table0 C.quadrant1 C.table1 C.unless0 C.misc-alu C.misc-alus C.arith C.ariths
-refusals = (refl, refl, refl, refl, refl, refl, refl, refl, refl)
+refusals = (refl, refl, refl, refl, refl, refl, refl, refl)
 
 -- 65 no-ops under the limit 65
 nops : ℕ → List ℕ

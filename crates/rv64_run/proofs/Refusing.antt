@@ -5,7 +5,7 @@ use mathlib.Core.List.{List}
 use Prim.Native.Nat.{ℕ, zero, suc, _+_, _-_, _%_, _≤_}
 use native.Mathlib.Omega.{arith}
 use lib.Dec.{eqb}
-use lib.ListN.{getD, drop}
+use lib.ListN.{drop}
 use borrow.Author.Tests.{eq-eqb, ne-eqb}
 use Rattle.rv64.specs.declared.decode.Instr.{Instr}
 use Rattle.rv64.specs.declared.execute.Flow.{Flow}
@@ -15,7 +15,7 @@ use Rattle.rv64_run.specs.declared.run.Stop.{Stop}
 use Rattle.rv64_run.specs.declared.run.Ran.{Ran}
 use Rattle.rv64_run.specs.declared.run.Refusal.{Refusal}
 use Rattle.rv64.specs.Execute.{exec, covered}
-use Rattle.rv64_run.specs.Run.{fetch, run, step, onward, clamped, number, refusal-first, refusal-of, answer-of, answer}
+use Rattle.rv64_run.specs.Run.{fetch, run, step, onward, start, clamped, number, refusal-first, refusal-of, answer-of, answer}
 use Rattle.rv64_run.specs.Parts.{at-first, refused}
 
 -- the count never falls
@@ -39,15 +39,15 @@ counted e (suc k) n bs h =
     by-step (fetch e bs) h n _ (λ size h'. let c = counted e k (n + 1) (drop size bs) h' in omega arith)
 
 -- the refusal by a run's outcome
-unfoldable first : ℕ → Stop → ℕ → Refusal
-first count stop x0 = cond (eqb count 0) (at-first stop) (cond (eqb x0 0) Refusal.Accepted Refusal.RegisterZero)
+unfoldable first : ℕ → Stop → Refusal
+first count stop = cond (eqb count 0) (at-first stop) Refusal.Accepted
 
-module _ (h : Hart) (go : ℕ → Hart → Ran) (x0 : ℕ) (p : (size : ℕ) (h : Hart) → 1 ≤ go size h .count) where
-  went : (size : ℕ) (h : Hart) → cond (eqb x0 0) Refusal.Accepted Refusal.RegisterZero ≡ first (go size h .count) (go size h .stop) x0
+module _ (h : Hart) (go : ℕ → Hart → Ran) (p : (size : ℕ) (h : Hart) → 1 ≤ go size h .count) where
+  went : (size : ℕ) (h : Hart) → Refusal.Accepted ≡ first (go size h .count) (go size h .stop)
   unfolding first
   went size h' = let c = p size h' in rw (ne-eqb (go size h' .count) 0 (λ q. omega arith))
 
-  by-first : (f : Fetched) → refusal-first f x0 ≡ first (step f h 0 go .count) (step f h 0 go .stop) x0
+  by-first : (f : Fetched) → refusal-first f ≡ first (step f h 0 go .count) (step f h 0 go .stop)
   unfolding refusal-first step onward exec covered first at-first
   by-first Fetched.Missing = refl
   by-first (Fetched.Found (Instr.Op k rd rs1 rs2) size) = went size _
@@ -71,26 +71,25 @@ refused-at-first Stop.Helper x r = refl
 refused-at-first Stop.Uncovered x r = refl
 
 module _ (g : List ℕ) (h : Hart) (limit : ℕ) (e : Bool) (q : limit ≡ 0 → ⊥) (p : h .pc % 2 ≡ 0) where
-  by-run : (k : ℕ) (x0 : ℕ) → refusal-first (fetch e g) x0 ≡ first (run e (suc k) 0 g h .count) (run e (suc k) 0 g h .stop) x0
+  abbrev begun : Hart
+  begun = start (h .x) (h .pc)
+
+  by-run : (k : ℕ) → refusal-first (fetch e g) ≡ first (run e (suc k) 0 g begun .count) (run e (suc k) 0 g begun .stop)
   unfolding run
-  by-run k x0 = by-first h _ x0 (λ size h'. counted e k 1 (drop size g) h') (fetch e g)
+  by-run k = by-first begun _ (λ size h'. counted e k 1 (drop size g) h') (fetch e g)
 
   -- the answer by the run r and its outcome
-  by-outcome : {r : Ran} → r ≡ run e (clamped limit) 0 g h → (q' : Refusal) → first (r .count) (r .stop) (getD (h .x) 0 0) ≡ q' → answer-of q' (h .x) r ≡ answer g h limit e
+  by-outcome : {r : Ran} → r ≡ run e (clamped limit) 0 g begun → (q' : Refusal) → first (r .count) (r .stop) ≡ q' → answer-of q' (h .x) r ≡ answer g h limit e
   unfolding answer refusal-of
   by-outcome {r} s q' f =
       let k : clamped limit ≡ suc (clamped limit - 1) = omega arith in
-      let z : refusal-first (fetch e g) (getD (h .x) 0 0) ≡ q' = by-run (clamped limit - 1) (getD (h .x) 0 0) ∙ (rw (← k, ← s) f) in
+      let z : refusal-first (fetch e g) ≡ q' = by-run (clamped limit - 1) ∙ (rw (← k, ← s) f) in
       rw (ne-eqb limit 0 q, eq-eqb (h .pc % 2) 0 p, z, ← s)
 
-  pub answer-at-first : {r : Ran} → r ≡ run e (clamped limit) 0 g h → r .count ≡ 0 → refused (at-first (r .stop)) (h .x) ≡ answer g h limit e
+  pub answer-at-first : {r : Ran} → r ≡ run e (clamped limit) 0 g begun → r .count ≡ 0 → refused (at-first (r .stop)) (h .x) ≡ answer g h limit e
   unfolding first
   answer-at-first {r} s c = refused-at-first (r .stop) (h .x) r ∙ by-outcome s (at-first (r .stop)) (rw (eq-eqb (r .count) 0 c))
 
-  pub register-zero : {r : Ran} → r ≡ run e (clamped limit) 0 g h → (r .count ≡ 0 → ⊥) → (getD (h .x) 0 0 ≡ 0 → ⊥) → refused Refusal.RegisterZero (h .x) ≡ answer g h limit e
+  pub accepted : {r : Ran} → r ≡ run e (clamped limit) 0 g begun → (r .count ≡ 0 → ⊥) → record { refusal = Refusal.Accepted; hart = r .hart; count = r .count } ≡ answer g h limit e
   unfolding first answer-of number
-  register-zero {r} s c d = by-outcome s Refusal.RegisterZero (rw (ne-eqb (r .count) 0 c, ne-eqb (getD (h .x) 0 0) 0 d))
-
-  pub accepted : {r : Ran} → r ≡ run e (clamped limit) 0 g h → (r .count ≡ 0 → ⊥) → getD (h .x) 0 0 ≡ 0 → record { refusal = Refusal.Accepted; hart = r .hart; count = r .count } ≡ answer g h limit e
-  unfolding first answer-of number
-  accepted {r} s c d = by-outcome s Refusal.Accepted (rw (ne-eqb (r .count) 0 c, eq-eqb (getD (h .x) 0 0) 0 d))
+  accepted {r} s c = by-outcome s Refusal.Accepted (rw (ne-eqb (r .count) 0 c))

@@ -3,7 +3,7 @@ use mathlib.Core.Bool.{Bool, cond, not}
 use mathlib.Core.List.{List}
 use Prim.Native.Nat.{ℕ, zero, suc, _+_, _%_, min}
 use lib.Dec.{ltb, eqb}
-use lib.ListN.{length, drop, getD}
+use lib.ListN.{length, drop, set}
 use Rattle.rules.specs.Limits.{max-instrs}
 use Rattle.rules.specs.Refusals as Refusals
 use Rattle.le.specs.Le.{load}
@@ -39,6 +39,10 @@ fetch e bs =
 abbrev pub hart : List ℕ → ℕ → Hart
 hart x pc = record { x = x; pc = pc }
 
+-- as a run begins: register 0's entry is read as 0, whatever it is (document 02, No. 6)
+abbrev pub start : List ℕ → ℕ → Hart
+start x pc = hart (set x 0 0) pc
+
 abbrev pub stopped : Hart → ℕ → Stop → Ran
 stopped h n why = record { hart = h; count = n; stop = why }
 
@@ -73,18 +77,16 @@ number Refusal.LimitZero = Refusals.limit-zero
 number Refusal.OddPc = Refusals.odd-pc
 number Refusal.NotFetched = Refusals.not-fetched
 number Refusal.NotCovered = Refusals.not-covered
-number Refusal.RegisterZero = Refusals.register-zero
 
-unfoldable pub refusal-first : Fetched → ℕ → Refusal
-refusal-first Fetched.Missing x0 = Refusal.NotFetched
-refusal-first (Fetched.Found i size) x0 =
-    cond (X.covered i) (cond (eqb x0 0) Refusal.Accepted Refusal.RegisterZero) Refusal.NotCovered
+unfoldable pub refusal-first : Fetched → Refusal
+refusal-first Fetched.Missing = Refusal.NotFetched
+refusal-first (Fetched.Found i size) = cond (X.covered i) Refusal.Accepted Refusal.NotCovered
 
--- the lowest that applies; x0: what register 0 holds
-unfoldable pub refusal-of : List ℕ → ℕ → ℕ → Bool → ℕ → Refusal
-refusal-of guest pc limit e x0 =
+-- the lowest that applies
+unfoldable pub refusal-of : List ℕ → ℕ → ℕ → Bool → Refusal
+refusal-of guest pc limit e =
     cond (eqb limit 0) Refusal.LimitZero
-    (cond (not (eqb (pc % 2) 0)) Refusal.OddPc (refusal-first (fetch e guest) x0))
+    (cond (not (eqb (pc % 2) 0)) Refusal.OddPc (refusal-first (fetch e guest)))
 
 -- where refused, the registers as they were, and every other number 0
 unfoldable pub answer-of : Refusal → List ℕ → Ran → Answer
@@ -94,4 +96,4 @@ answer-of q x r =
 
 unfoldable pub answer : List ℕ → Hart → ℕ → Bool → Answer
 answer guest h limit e =
-    answer-of (refusal-of guest (h .pc) limit e (getD (h .x) 0 0)) (h .x) (run e (clamped limit) 0 guest h)
+    answer-of (refusal-of guest (h .pc) limit e) (h .x) (run e (clamped limit) 0 guest (start (h .x) (h .pc)))

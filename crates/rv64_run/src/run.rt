@@ -63,7 +63,6 @@ pub enum Refusal {
     OddPc,
     NotFetched,
     NotCovered,
-    RegisterZero,
 }
 
 pub struct Answer {
@@ -159,7 +158,6 @@ pub fn number(q: Refusal) -> u32
         Refusal::OddPc => refusals::ODD_PC,
         Refusal::NotFetched => refusals::NOT_FETCHED,
         Refusal::NotCovered => refusals::NOT_COVERED,
-        Refusal::RegisterZero => refusals::REGISTER_ZERO,
     }
 }
 
@@ -196,7 +194,7 @@ fn at_first(stop: Stop) -> Refusal
     }
 }
 
-// The operation RV64 run.
+// The operation RV64 run. Register 0's entry is read as 0, whatever it is (document 02, No. 6).
 pub fn rv64_run(guest: &[u8], hart: Hart, limit: u32, ignore_ebreak: bool) -> Answer
     ensures { λ r. ⌜ r ≡ Rv64.answer (now (guest .entry)) hart limit «ignore_ebreak» ⌝ }
 {
@@ -207,14 +205,13 @@ pub fn rv64_run(guest: &[u8], hart: Hart, limit: u32, ignore_ebreak: bool) -> An
     if hart.pc % 2 != 0 {
         return refused(Refusal::OddPc, x);
     }
-    let r = run(guest, clamped(limit), ignore_ebreak, hart);
+    let mut h = hart;
+    h.x[0] = 0;
+    let r = run(guest, clamped(limit), ignore_ebreak, h);
     let count = r.count;
     if count == 0 {
         let stop = r.stop;
         return refused(at_first(stop), x);
-    }
-    if x[0] != 0 {
-        return refused(Refusal::RegisterZero, x);
     }
     let h = r.hart;
     Answer {

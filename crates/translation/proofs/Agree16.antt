@@ -1,7 +1,7 @@
 -- Every 16-bit encoding: the Rust's emission agrees with the ISA's instruction. Assumes nothing.
 use mathlib.Core.Path.{_≡_, refl}
 use mathlib.Core.Bool.{Bool, true, false, cond}
-use mathlib.Core.List.{[], _∷_, _++_}
+use mathlib.Core.List.{List, [], _∷_, _++_}
 use Prim.Native.Nat.{ℕ, zero, suc, _%_, _^_, _<_}
 use native.Mathlib.Omega.{arith}
 use lib.Bits.{or-zero-r}
@@ -25,9 +25,9 @@ use Rattle.emit_native.specs.Calls.{emit, mov-imm64, load, store, Emission, con
 use Rattle.isa.specs.Decode as Rust
 use Rattle.instr16.specs.Instr16 as I16
 use Rattle.isa.proofs.Decoding.{imm-ci-is, shamt-is, imm-addi4spn-is, imm-addi16sp-is, imm-cj-is, imm-cb-is}
-use Rattle.translation.proofs.Calls.{Model, form-step, call-step, calls-run, scratch, form-fits, written, fits, keeps, all-fit, all-keep, Kept}
+use Rattle.translation.proofs.Calls.{Model, form-step, call-step, calls-run, scratch, form-fits, written, fits, keeps, all-fit, all-keep, Kept, read-lt}
 use Rattle.translation.proofs.Alus.{body, body-law}
-use Rattle.translation.proofs.Instrs.{Agrees, nothing, two, body-fine, condition, fork, calls-first-does, with-constant, fork-does, fork-next, even, read-slot, op-agrees, imm-agrees, lui-agrees, jal-agrees, nop-agrees, uncovered-agrees, helper-agrees}
+use Rattle.translation.proofs.Instrs.{Agrees, nothing, two, body-fine, condition, fork, calls-first-does, with-constant, fork-does, fork-next, even, op-agrees, imm-agrees, lui-agrees, jal-agrees, nop-agrees, uncovered-agrees, helper-agrees}
 use Rattle.translation.proofs.Agree32.{digit}
 
 -- the store of a register that is not 0
@@ -38,20 +38,24 @@ stored d h = rw (ne-eqb d 0 h)
 plus-zero : (x : ℕ) → x < 2 ^ 64 → add x 0 ≡ x
 plus-zero x h = omega arith
 
+read-zero : (rs : List ℕ) → read rs 0 ≡ 0
+unfolding read
+read-zero rs = refl
+
 zero-plus : (x : ℕ) → x < 2 ^ 64 → add 0 x ≡ x
 zero-plus x h = omega arith
 
-module _ (r₀ : ℕ → ℕ) (pc : ℕ) (v : Model) (κ : Kept r₀ true v) (z : getD (v .slots) 0 0 ≡ 0) where
+module _ (r₀ : ℕ → ℕ) (pc : ℕ) (v : Model) (κ : Kept r₀ true v) where
   -- an operation with a constant, and the store that is always there
   imm-stored : (k : Alu) (d a c : ℕ) → d < 32 → (d ≡ 0 → ⊥) → a < 32 → c < 2 ^ 64
       → Agrees 2 pc v (Instr.OpImm k d a c) (continue (load 9 a ∷ mov-imm64 10 c ∷ (body k ++ (store 11 d ∷ []))))
   imm-stored k d a c hd nd ha hc =
       rw (stored d nd) at
-      (imm-agrees r₀ 2 pc v κ z (body k) k d a c (body-fine k) (λ u x y. body-law k u x (rw y hc)) hd ha hc)
+      (imm-agrees r₀ 2 pc v κ (body k) k d a c (body-fine k) (λ u x y. body-law k u x (rw y hc)) hd ha hc)
 
   op-stored : (k : Alu) (d a b : ℕ) → d < 32 → (d ≡ 0 → ⊥) → a < 32 → b < 32
       → Agrees 2 pc v (Instr.Op k d a b) (continue (load 9 a ∷ load 10 b ∷ (body k ++ (store 11 d ∷ []))))
-  op-stored k d a b hd nd ha hb = rw (stored d nd) at (op-agrees r₀ 2 pc v κ z k d a b hd ha hb)
+  op-stored k d a b hd nd ha hb = rw (stored d nd) at (op-agrees r₀ 2 pc v κ k d a b hd ha hb)
 
   -- a result for register 0 is lost
   zero-agrees : (k : Alu) (a c : ℕ) → Agrees 2 pc v (Instr.OpImm k 0 a c) (continue [])
@@ -64,7 +68,7 @@ module _ (r₀ : ℕ → ℕ) (pc : ℕ) (v : Model) (κ : Kept r₀ true v) (z 
   li-agrees d c hd nd hc =
       record {
         flow = refl;
-        does = record { fit = tt; range = (hc, (hd, tt)); slots = rw (ne-eqb d 0 nd, zero-plus c hc) };
+        does = record { fit = tt; range = omega (arith, hc, nd); slots = rw (ne-eqb d 0 nd, zero-plus c hc) };
         stay = tt;
         next = refl;
       }
@@ -77,15 +81,15 @@ module _ (r₀ : ℕ → ℕ) (pc : ℕ) (v : Model) (κ : Kept r₀ true v) (z 
         flow = refl;
         does = record {
           fit = tt;
-          range = (hb, (hd, tt));
-          slots = rw (ne-eqb d 0 nd, read-slot (v .slots) z b, read-slot (v .slots) z 0, z, zero-plus (getD (v .slots) b 0) (κ .small b));
+          range = omega (arith, nd);
+          slots = rw (ne-eqb d 0 nd, read-zero (v .slots), zero-plus (read (v .slots) b) (read-lt κ b));
         };
         stay = tt;
         next = refl;
       }
 
   lui-stored : (d c : ℕ) → d < 32 → (d ≡ 0 → ⊥) → c < 2 ^ 64 → Agrees 2 pc v (Instr.Lui d c) (continue (mov-imm64 11 c ∷ store 11 d ∷ []))
-  lui-stored d c hd nd hc = rw (ne-eqb d 0 nd) at (lui-agrees r₀ 2 pc v κ z d c hd hc)
+  lui-stored d c hd nd hc = rw (ne-eqb d 0 nd) at (lui-agrees r₀ 2 pc v κ d c hd hc)
 
   -- a branch on zero
   bz-agrees : (k : Cond) (a c : ℕ) → a < 32
@@ -96,8 +100,8 @@ module _ (r₀ : ℕ → ℕ) (pc : ℕ) (v : Model) (κ : Kept r₀ true v) (z 
         flow = refl;
         does = calls-first-does (load 9 a ∷ mov-imm64 10 0 ∷ []) _ v _ (with-constant a 0 ha (omega arith))
             (unfold calls-run call-step in (fork-does k (add pc c) (add pc 2) (calls-run (load 9 a ∷ mov-imm64 10 0 ∷ []) v) (omega arith) (omega arith)));
-        next = rw (read-slot (v .slots) z a)
-            (unfold calls-run call-step read in (fork-next k (add pc c) (add pc 2) (calls-run (load 9 a ∷ mov-imm64 10 0 ∷ []) v) (κ .small a) (omega arith)));
+        next = rw (read-zero (v .slots))
+            (unfold calls-run call-step in (fork-next k (add pc c) (add pc 2) (calls-run (load 9 a ∷ mov-imm64 10 0 ∷ []) v) (read-lt κ a) (omega arith)));
       }
 
   jr-agrees : (a : ℕ) → a < 32 → Agrees 2 pc v (Instr.Jalr 0 a 0) (terminate (load 9 a ∷ mov-imm64 10 not-1 ∷ emit (and-x 0 9 10) ∷ []))
@@ -106,7 +110,7 @@ module _ (r₀ : ℕ → ℕ) (pc : ℕ) (v : Model) (κ : Kept r₀ true v) (z 
       record {
         flow = refl;
         does = record { fit = tt; range = omega arith; slots = refl };
-        next = rw (read-slot (v .slots) z a, plus-zero (getD (v .slots) a 0) (κ .small a)) (even (getD (v .slots) a 0) (κ .small a));
+        next = rw (plus-zero (read (v .slots) a) (read-lt κ a)) (even (read (v .slots) a) (read-lt κ a));
       }
 
   jalr1-agrees : (a : ℕ) → a < 32
@@ -117,14 +121,14 @@ module _ (r₀ : ℕ → ℕ) (pc : ℕ) (v : Model) (κ : Kept r₀ true v) (z 
       record {
         flow = refl;
         does = record { fit = tt; range = omega arith; slots = refl };
-        next = rw (read-slot (v .slots) z a, plus-zero (getD (v .slots) a 0) (κ .small a), or-zero-r) (even (getD (v .slots) a 0) (κ .small a));
+        next = rw (plus-zero (read (v .slots) a) (read-lt κ a), or-zero-r) (even (read (v .slots) a) (read-lt κ a));
       }
 
   no-words : Agrees 2 pc v Instr.Uncovered (none [])
-  no-words = uncovered-agrees r₀ 2 pc v κ z [] nothing
+  no-words = uncovered-agrees r₀ 2 pc v κ [] nothing
 
   helped : Agrees 2 pc v Instr.Helper (none [])
-  helped = helper-agrees r₀ 2 pc v κ z
+  helped = helper-agrees r₀ 2 pc v κ
 
   -- an instruction that is reserved where n is 0
   unless : (n : ℕ) (i : Instr) (e : Emission) → ((n ≡ 0 → ⊥) → Agrees 2 pc v i e) → Agrees 2 pc v (C.unless0 n i) (cond (eqb n 0) (none []) e)
@@ -163,7 +167,7 @@ module _ (r₀ : ℕ → ℕ) (pc : ℕ) (v : Model) (κ : Kept r₀ true v) (z 
     alu-is k = op-stored k (high-reg w) (high-reg w) (low-reg w) high-lt high-is high-lt (omega arith)
 
     leftover : Agrees 2 pc v Instr.Uncovered (none (load 9 (high-reg w) ∷ load 10 (low-reg w) ∷ []))
-    leftover = uncovered-agrees r₀ 2 pc v κ z (load 9 (high-reg w) ∷ load 10 (low-reg w) ∷ []) (two (high-reg w) (low-reg w) high-lt (omega arith))
+    leftover = uncovered-agrees r₀ 2 pc v κ (load 9 (high-reg w) ∷ load 10 (low-reg w) ∷ []) (two (high-reg w) (low-reg w) high-lt (omega arith))
 
     alu-by : (s a : ℕ) → s < 2 → a < 4 → inst 12 12 w ≡ s → inst 6 5 w ≡ a
         → Agrees 2 pc v (C.arith w) (calls-first (load 9 (high-reg w) ∷ load 10 (low-reg w) ∷ []) (I16.c-alu (inst 12 12 w) (inst 6 5 w) (high-reg w)))
@@ -233,7 +237,7 @@ module _ (r₀ : ℕ → ℕ) (pc : ℕ) (v : Model) (κ : Kept r₀ true v) (z 
 
     c-j-is : Agrees 2 pc v (Instr.Jal 0 (cj-imm w)) (I16.c-j pc w)
     unfolding I16.c-j
-    c-j-is = rw (imm-cj-is w) (jal-agrees r₀ 2 pc v κ z 0 (cj-imm w) (omega arith))
+    c-j-is = rw (imm-cj-is w) (jal-agrees r₀ 2 pc v κ 0 (cj-imm w) (omega arith))
 
     bz-is : (k : Cond) → Agrees 2 pc v (Instr.Branch k (high-reg w) 0 (cb-imm w)) (I16.c-branch-on pc w (condition k))
     unfolding I16.c-branch-on
@@ -258,7 +262,7 @@ module _ (r₀ : ℕ → ℕ) (pc : ℕ) (v : Model) (κ : Kept r₀ true v) (z 
 
     module _ (flag : Bool) where
       ebreak-by : (f : Bool) → Agrees 2 pc v (cond f Instr.Nop Instr.Uncovered) (cond f (continue []) (none []))
-      ebreak-by true = nop-agrees r₀ 2 pc v κ z
+      ebreak-by true = nop-agrees r₀ 2 pc v κ
       ebreak-by false = no-words
 
       jalr-by : (b : Bool) → Agrees 2 pc v (cond b (cond flag Instr.Nop Instr.Uncovered) (Instr.Jalr 1 (rd w) 0)) (cond b (I16.c-ebreak flag) (I16.c-jalr pc (rd w)))
@@ -268,7 +272,7 @@ module _ (r₀ : ℕ → ℕ) (pc : ℕ) (v : Model) (κ : Kept r₀ true v) (z 
 
       add-is : Agrees 2 pc v (C.unless0 (rd w) (Instr.Op Alu.Add (rd w) (rd w) (C.rs2 w))) (I16.c-add (rd w) (C.rs2 w))
       unfolding I16.c-add body store-rd
-      add-is = unless (rd w) _ _ (λ n. op-agrees r₀ 2 pc v κ z Alu.Add (rd w) (rd w) (C.rs2 w) (omega arith) (omega arith) (omega arith))
+      add-is = unless (rd w) _ _ (λ n. op-agrees r₀ 2 pc v κ Alu.Add (rd w) (rd w) (C.rs2 w) (omega arith) (omega arith) (omega arith))
 
       ebreak-jalr-add-by : (b : Bool) → eqb (C.rs2 w) 0 ≡ b
           → Agrees 2 pc v (C.ebreak-jalr-add flag w)

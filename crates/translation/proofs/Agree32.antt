@@ -198,15 +198,15 @@ fences32 pc w h =
 
 -- ---- the other encodings
 
-module _ (r₀ : ℕ → ℕ) (pc : ℕ) (v : Model) (κ : Kept r₀ true v) (z : getD (v .slots) 0 0 ≡ 0) (w : ℕ) (hw : w < 2 ^ 32) (hf : is-fence-i w ≡ false) where
+module _ (r₀ : ℕ → ℕ) (pc : ℕ) (v : Model) (κ : Kept r₀ true v) (w : ℕ) (hw : w < 2 ^ 32) (hf : is-fence-i w ≡ false) where
   f3-lt : funct3 w < 8
   f3-lt = omega arith
 
   -- an entry of the tables of OP and OP-32, or none
   op-by : (o : Option Alu) → Agrees 4 pc v (made o (D.reg w) Instr.Uncovered) (calls-first (load 9 (rs1 w) ∷ load 10 (rs2 w) ∷ []) (then-store-rd (rd w) (emission o)))
   unfolding store-rd
-  op-by (Option.some k) = op-agrees r₀ 4 pc v κ z k (rd w) (rs1 w) (rs2 w) (omega arith) (omega arith) (omega arith)
-  op-by Option.none = uncovered-agrees r₀ 4 pc v κ z (load 9 (rs1 w) ∷ load 10 (rs2 w) ∷ []) (two (rs1 w) (rs2 w) (omega arith) (omega arith))
+  op-by (Option.some k) = op-agrees r₀ 4 pc v κ k (rd w) (rs1 w) (rs2 w) (omega arith) (omega arith) (omega arith)
+  op-by Option.none = uncovered-agrees r₀ 4 pc v κ (load 9 (rs1 w) ∷ load 10 (rs2 w) ∷ []) (two (rs1 w) (rs2 w) (omega arith) (omega arith))
 
   by-table : (t : Table Alu) (arm : ℕ → ℕ → Emission) → ((f7 : ℕ) → Row t arm f7)
       → Agrees 4 pc v (lookup t (D.funct10 w) (D.reg w) Instr.Uncovered) (calls-first (load 9 (rs1 w) ∷ load 10 (rs2 w) ∷ []) (then-store-rd (rd w) (arm (funct7 w) (funct3 w))))
@@ -217,17 +217,17 @@ module _ (r₀ : ℕ → ℕ) (pc : ℕ) (v : Model) (κ : Kept r₀ true v) (z 
   imm-is : (k : Alu) → Agrees 4 pc v (D.imm w k) (calls-first (load 9 (rs1 w) ∷ []) (then-store-rd (rd w) (continue (mov-imm64 10 (Rust.imm-i w) ∷ body k))))
   imm-is k =
       rw (imm-i-is w hw)
-      (imm-agrees r₀ 4 pc v κ z (body k) k (rd w) (rs1 w) (i-imm w) (body-fine k) (λ u a b. body-law k u a (rw b (omega arith))) (omega arith) (omega arith) (omega arith))
+      (imm-agrees r₀ 4 pc v κ (body k) k (rd w) (rs1 w) (i-imm w) (body-fine k) (λ u a b. body-law k u a (rw b (omega arith))) (omega arith) (omega arith) (omega arith))
 
   -- shifts by an immediate
   shift-is : (k : Alu) → Agrees 4 pc v (D.shift w k) (calls-first (load 9 (rs1 w) ∷ mov-imm64 10 (w / 2 ^ 20 % 4096 % 64) ∷ []) (then-store-rd (rd w) (continue (body k))))
   shift-is k =
       let e : w / 2 ^ 20 % 4096 % 64 ≡ inst 25 20 w = omega arith in
       rw e
-      (imm-agrees r₀ 4 pc v κ z (body k) k (rd w) (rs1 w) (inst 25 20 w) (body-fine k) (λ u a b. body-law k u a (rw b (omega arith))) (omega arith) (omega arith) (omega arith))
+      (imm-agrees r₀ 4 pc v κ (body k) k (rd w) (rs1 w) (inst 25 20 w) (body-fine k) (λ u a b. body-law k u a (rw b (omega arith))) (omega arith) (omega arith) (omega arith))
 
   only-load : Agrees 4 pc v Instr.Uncovered (none (load 9 (rs1 w) ∷ []))
-  only-load = uncovered-agrees r₀ 4 pc v κ z (load 9 (rs1 w) ∷ []) (one (rs1 w) (omega arith))
+  only-load = uncovered-agrees r₀ 4 pc v κ (load 9 (rs1 w) ∷ []) (one (rs1 w) (omega arith))
 
   -- imm[11:6] of a shift
   hi-is : w / 2 ^ 20 % 4096 / 2 ^ 6 % 64 ≡ w / 2 ^ 26 % 64
@@ -257,7 +257,7 @@ module _ (r₀ : ℕ → ℕ) (pc : ℕ) (v : Model) (κ : Kept r₀ true v) (z 
       done))
       (λ r e.
       rw (hi-is, e, r .0, r .1 .0, unlisted functs6 D.shifts n 5 (omega arith) tt r (D.shift w) Instr.Uncovered)
-      (uncovered-agrees r₀ 4 pc v κ z (load 9 (rs1 w) ∷ mov-imm64 10 (w / 2 ^ 20 % 4096 % 64) ∷ [])
+      (uncovered-agrees r₀ 4 pc v κ (load 9 (rs1 w) ∷ mov-imm64 10 (w / 2 ^ 20 % 4096 % 64) ∷ [])
       (with-constant (rs1 w) (w / 2 ^ 20 % 4096 % 64) (omega arith) (omega arith))))
 
   op-imm-by : (t : ℕ) → t < 8 → Agrees 4 pc v (lookup D.imms t (D.imm w) (lookup D.shifts (w / 2 ^ 26 % 64 * 8 + t) (D.shift w) Instr.Uncovered))
@@ -276,7 +276,7 @@ module _ (r₀ : ℕ → ℕ) (pc : ℕ) (v : Model) (κ : Kept r₀ true v) (z 
   word-shift-is cs k φ l =
       let e : w / 2 ^ 20 % 4096 % 32 ≡ inst 24 20 w = omega arith in
       rw e
-      (imm-agrees r₀ 4 pc v κ z cs k (rd w) (rs1 w) (inst 24 20 w) φ (λ u a b. l u (rw b (omega arith))) (omega arith) (omega arith) (omega arith))
+      (imm-agrees r₀ 4 pc v κ cs k (rd w) (rs1 w) (inst 24 20 w) φ (λ u a b. l u (rw b (omega arith))) (omega arith) (omega arith) (omega arith))
 
   -- by funct7, with the funct3 t
   abbrev Shifted-32 : ℕ → ℕ → Type 0
@@ -302,7 +302,7 @@ module _ (r₀ : ℕ → ℕ) (pc : ℕ) (v : Model) (κ : Kept r₀ true v) (z 
       done))
       (λ r.
       rw (r .0, r .1 .0, unlisted functs7 D.shifts32 n 5 (omega arith) tt r (D.shiftw w) Instr.Uncovered)
-      (uncovered-agrees r₀ 4 pc v κ z (load 9 (rs1 w) ∷ mov-imm64 10 (w / 2 ^ 20 % 4096 % 32) ∷ [])
+      (uncovered-agrees r₀ 4 pc v κ (load 9 (rs1 w) ∷ mov-imm64 10 (w / 2 ^ 20 % 4096 % 32) ∷ [])
       (with-constant (rs1 w) (w / 2 ^ 20 % 4096 % 32) (omega arith) (omega arith))))
 
   -- no shift has another funct3
@@ -330,10 +330,10 @@ module _ (r₀ : ℕ → ℕ) (pc : ℕ) (v : Model) (κ : Kept r₀ true v) (z 
 
   branch-on-is : (k : Cond) → Agrees 4 pc v (D.on w k) (I32.branch-on pc w (Rust.decode32 w) (condition k))
   unfolding I32.branch-on
-  branch-on-is k = rw (imm-b-is w hw) (branch-agrees r₀ 4 pc v κ z k (rs1 w) (rs2 w) (b-imm w) (omega arith) (omega arith))
+  branch-on-is k = rw (imm-b-is w hw) (branch-agrees r₀ 4 pc v κ k (rs1 w) (rs2 w) (b-imm w) (omega arith) (omega arith))
 
   no-words : Agrees 4 pc v Instr.Uncovered (none [])
-  no-words = uncovered-agrees r₀ 4 pc v κ z [] nothing
+  no-words = uncovered-agrees r₀ 4 pc v κ [] nothing
 
   branch-by : (t : ℕ) → t < 8 → Agrees 4 pc v (lookup D.branches t (D.on w) Instr.Uncovered) (I32.branch pc w (Rust.decode32 w) t)
   unfolding D.branches I32.branch I32.branch-on condition
@@ -345,12 +345,12 @@ module _ (r₀ : ℕ → ℕ) (pc : ℕ) (v : Model) (κ : Kept r₀ true v) (z 
   unfolding D.misc-mem D.fences I32.misc-mem
   misc-mem-by q =
       digit (λ t. funct3 w ≡ t → Agrees 4 pc v (D.misc-mem w) (I32.misc-mem (Rust.decode32 w)))
-      (λ e. rw e (nop-agrees r₀ 4 pc v κ z)) (λ e. absurd (true≢false (rw (q, e) at hf))) (λ e. rw e no-words) (λ e. rw e no-words)
+      (λ e. rw e (nop-agrees r₀ 4 pc v κ)) (λ e. absurd (true≢false (rw (q, e) at hf))) (λ e. rw e no-words) (λ e. rw e no-words)
       (λ e. rw e no-words) (λ e. rw e no-words) (λ e. rw e no-words) (λ e. rw e no-words)
 
   -- helpers and what is never inline
   either : (b : Bool) → Agrees 4 pc v (cond b Instr.Helper Instr.Uncovered) (none [])
-  either true = helper-agrees r₀ 4 pc v κ z
+  either true = helper-agrees r₀ 4 pc v κ
   either false = no-words
 
   others : (c : Class) → Type 0
@@ -362,10 +362,10 @@ module _ (r₀ : ℕ → ℕ) (pc : ℕ) (v : Model) (κ : Kept r₀ true v) (z 
 
   by-opcode : (n : ℕ) → Opcode n → w % 128 ≡ n → Agrees 4 pc v (D.by-class (class-of (w % 128)) w) (I32.emit-native-instr pc w (Rust.decode32 w))
   unfolding D.by-class class-of D.op D.op32 D.op-imm D.shift-imm D.op-imm-32 D.shift-imm-32 D.branch I32.emit-native-instr I32.lui I32.auipc I32.jal I32.jalr I32.branch I32.branch-on I32.op-imm I32.op-imm-32 I32.op-32 I32.op I32.misc-mem others D.below
-  by-opcode _ lui e = rw (e, imm-u-is w hw) (lui-agrees r₀ 4 pc v κ z (rd w) (u-imm w) (omega arith) (omega arith))
-  by-opcode _ auipc e = rw (e, imm-u-is w hw) (auipc-agrees r₀ 4 pc v κ z (rd w) (u-imm w) (omega arith))
-  by-opcode _ jal e = rw (e, imm-j-is w hw) (jal-agrees r₀ 4 pc v κ z (rd w) (j-imm w) (omega arith))
-  by-opcode _ jalr e = rw (e, imm-i-is w hw) (jalr-agrees r₀ 4 pc v κ z (rd w) (rs1 w) (i-imm w) (omega arith) (omega arith) (omega arith))
+  by-opcode _ lui e = rw (e, imm-u-is w hw) (lui-agrees r₀ 4 pc v κ (rd w) (u-imm w) (omega arith) (omega arith))
+  by-opcode _ auipc e = rw (e, imm-u-is w hw) (auipc-agrees r₀ 4 pc v κ (rd w) (u-imm w) (omega arith))
+  by-opcode _ jal e = rw (e, imm-j-is w hw) (jal-agrees r₀ 4 pc v κ (rd w) (j-imm w) (omega arith))
+  by-opcode _ jalr e = rw (e, imm-i-is w hw) (jalr-agrees r₀ 4 pc v κ (rd w) (rs1 w) (i-imm w) (omega arith) (omega arith) (omega arith))
   by-opcode _ branch e = rw e (branch-by (funct3 w) f3-lt)
   by-opcode _ op-imm e = rw e (op-imm-by (funct3 w) f3-lt)
   by-opcode _ op-imm-32 e = rw e (op-imm-32-by (funct3 w) f3-lt)

@@ -27,7 +27,7 @@ use Rattle.term_helper.specs.TermHelper as TH
 use Rattle.translation.specs.HelperBlock as Spec
 use Rattle.translation.proofs.Calls.{Model, form-step, call-step, calls-run, scratch, form-fits, written, fits, keeps, all-fit, all-keep, Kept}
 use Rattle.translation.proofs.Moves.{Move, from, constant, move-call, all-moved, Moves}
-use Rattle.translation.proofs.Instrs.{Fine, nothing, read-slot}
+use Rattle.translation.proofs.Instrs.{Fine, nothing}
 use Rattle.translation.proofs.Agree32.{digit}
 
 -- behind the call: X30 and SP back, the prefix added to X1
@@ -60,7 +60,7 @@ pub record Arranged (hs : List Call) (v : Model) (n : ℕ) (c : Spec.Call) : Typ
   pub arguments : Are (all-moved moves (calls-run early v .r)) (c .arguments)
   pub x16 : all-moved moves (calls-run early v .r) 16 ≡ c .helper
 
-module _ (s : State) (v : Model) (κ : Kept (reg s) true v) (z : getD (v .slots) 0 0 ≡ 0) (n pc : ℕ) (hp : pc < 2 ^ 64) where
+module _ (s : State) (v : Model) (κ : Kept (reg s) true v) (n pc : ℕ) (hp : pc < 2 ^ 64) where
   general-call : (helper w : ℕ) → helper < 2 ^ 64 → w < 2 ^ 64 → Arranged (TH.call-exec helper pc w n) v n (Spec.general helper s w pc)
   unfolding scratch calls-run
   general-call helper w hh hw =
@@ -79,7 +79,7 @@ module _ (s : State) (v : Model) (κ : Kept (reg s) true v) (z : getD (v .slots)
       → Arranged (TH.load-calls helper op pc w (Rust.decode32 w) n) v n (Spec.memory helper s op w 0 (add (read (v .slots) (rs1 w)) (i-imm w)) pc)
   unfolding all-fit fits form-fits keeps written all-keep scratch calls-run call-step form-step op-value decode
   load-call helper op w hh ho hw =
-      let a : add (getD (v .slots) (rs1 w) 0) (Rust.imm-i w) ≡ add (read (v .slots) (rs1 w)) (i-imm w) = rw (imm-i-is w hw, read-slot (v .slots) z (rs1 w)) in
+      let a : add (read (v .slots) (rs1 w)) (Rust.imm-i w) ≡ add (read (v .slots) (rs1 w)) (i-imm w) = rw (imm-i-is w hw) in
       record {
         early = load 9 (rs1 w) ∷ mov-imm64 10 (Rust.imm-i w) ∷ emit (add-x 11 9 10) ∷ [];
         moves = from 0 1 ∷ from 1 2 ∷ from 2 3 ∷ constant 3 op ∷ constant 4 (rd w) ∷ constant 5 0 ∷ from 6 11 ∷ constant 7 pc ∷ constant 16 helper ∷ [];
@@ -95,7 +95,7 @@ module _ (s : State) (v : Model) (κ : Kept (reg s) true v) (z : getD (v .slots)
       → Arranged (TH.store-calls helper op pc w (Rust.decode32 w) n) v n (Spec.memory helper s op w (read (v .slots) (rs2 w)) (add (read (v .slots) (rs1 w)) (s-imm w)) pc)
   unfolding all-fit fits form-fits keeps written all-keep scratch calls-run call-step form-step op-value decode
   store-call helper op w hh ho hw =
-      let a : add (getD (v .slots) (rs1 w) 0) (Rust.imm-s w) ≡ add (read (v .slots) (rs1 w)) (s-imm w) = rw (imm-s-is w hw, read-slot (v .slots) z (rs1 w)) in
+      let a : add (read (v .slots) (rs1 w)) (Rust.imm-s w) ≡ add (read (v .slots) (rs1 w)) (s-imm w) = rw (imm-s-is w hw) in
       record {
         early = load 9 (rs1 w) ∷ mov-imm64 10 (Rust.imm-s w) ∷ emit (add-x 11 9 10) ∷ load 12 (rs2 w) ∷ [];
         moves = from 0 1 ∷ from 1 2 ∷ from 2 3 ∷ constant 3 op ∷ constant 4 (rd w) ∷ from 5 12 ∷ from 6 11 ∷ constant 7 pc ∷ constant 16 helper ∷ [];
@@ -103,7 +103,7 @@ module _ (s : State) (v : Model) (κ : Kept (reg s) true v) (z : getD (v .slots)
         fine = record { fit = tt; stay = refl; range = (omega arith, (rw (imm-s-is w hw) (omega arith), (tt, (omega arith, tt)))); slots = λ u. refl };
         range = omega (arith, hh, ho, hp);
         few = omega arith;
-        arguments = (κ .same 1 refl, (κ .same 2 refl, (κ .same 3 refl, (refl, (refl, (sym (read-slot (v .slots) z (rs2 w)), (a, (refl, tt))))))));
+        arguments = (κ .same 1 refl, (κ .same 2 refl, (κ .same 3 refl, (refl, (refl, (refl, (a, (refl, tt))))))));
         x16 = refl;
       }
 

@@ -20,7 +20,7 @@ use Rattle.rv64_run.specs.declared.run.Hart.{Hart}
 use Rattle.rv64_run.specs.declared.run.Fetched as RF
 use Rattle.rv64_run.specs.declared.run.Stop as RS
 use Rattle.rv64_run.specs.declared.run.Ran.{Ran}
-use Rattle.rv64.specs.Execute.{write, exec}
+use Rattle.rv64.specs.Execute.{exec}
 use Rattle.rv64.specs.Decode as D
 use Rattle.rvc.specs.Compressed as C
 use Rattle.rv64_run.specs.Run as Rv64
@@ -45,26 +45,6 @@ use Rattle.translation.proofs.Fences.{behind, cut, narrow}
 use Rattle.translation.proofs.Helpers.{sort, took, sorts32, sorts16}
 
 -- ---- what an instruction keeps
-
-write-zero : (x : List ℕ) (d w : ℕ) → getD (write x d w) 0 0 ≡ getD x 0 0
-unfolding write
-write-zero x zero w = refl
-write-zero [] (suc d) w = rw (ne-eqb (suc d) 0 (omega arith))
-write-zero (y ∷ x) (suc d) w = rw (ne-eqb (suc d) 0 (omega arith))
-
-exec-zero : (i : Instr) (n pc : ℕ) (x : List ℕ) → getD (exec i n pc x .x) 0 0 ≡ getD x 0 0
-unfolding exec
-exec-zero (Instr.Op k d a b) n pc x = write-zero x d _
-exec-zero (Instr.OpImm k d a c) n pc x = write-zero x d _
-exec-zero (Instr.Lui d c) n pc x = write-zero x d _
-exec-zero (Instr.Auipc d c) n pc x = write-zero x d _
-exec-zero (Instr.Jal d c) n pc x = write-zero x d _
-exec-zero (Instr.Jalr d a c) n pc x = write-zero x d _
-exec-zero (Instr.Branch k a b c) n pc x = refl
-exec-zero Instr.Nop n pc x = refl
-exec-zero Instr.FenceI n pc x = refl
-exec-zero Instr.Helper n pc x = refl
-exec-zero Instr.Uncovered n pc x = refl
 
 -- one that the run does not do leaves the registers
 abbrev Stays : Flow → List ℕ → List ℕ → Type 0
@@ -132,7 +112,6 @@ pub record Helps (host : Host) (guest : List ℕ) (start : ℕ) (w : Walk) (v : 
   pub slots : calls-run front v .slots ≡ r .hart .x
   pub pc : w .pc ≡ r .hart .pc
   pub count : w .count ≡ suc (r .count)
-  pub zero : getD (r .hart .x) 0 0 ≡ 0
   pub why : r .stop ≡ RS.Stop.Helper
 
 plain : (pc : ℕ) (why : Stop) → next-calls why pc ≡ mov-imm64 0 pc ∷ [] → why ≡ Stop.Helper → ⊥
@@ -252,7 +231,7 @@ module _ (r₀ : ℕ → ℕ) (start : ℕ) (host : Host) (guest : List ℕ) whe
 
   -- the walk and the guest's run from index i on
   abbrev Follows : ℕ → Walk → (Hart → Ran) → Type 0
-  Follows i w run = (u : Model) → Kept r₀ true u → getD (u .slots) 0 0 ≡ 0 → Follow w u (run (Rv64.hart (u .slots) (add start i)))
+  Follows i w run = (u : Model) → Kept r₀ true u → Follow w u (run (Rv64.hart (u .slots) (add start i)))
 
   -- what the helper's emitter answers for an instruction at a PC after n others, whose flow is f
   record Offer (pc n : ℕ) (f : Flow) (h : Emission) : Type 0 where
@@ -267,10 +246,10 @@ module _ (r₀ : ℕ → ℕ) (start : ℕ) (host : Host) (guest : List ℕ) whe
   uncovered-walks e h size i n v rest (inr p) o φ =
       rw (p, append-nil (e .calls)) (stop-walks (e .calls) n (add start i) Stop.Uncovered RS.Stop.Uncovered v refl φ (omega arith))
 
-  helper-walks : (e h : Emission) (size i n : ℕ) (v : Model) (rest : ℕ → ℕ → Walk) → Offer (add start i) n Flow.Helper h → getD (v .slots) 0 0 ≡ 0 → Fine (e .calls)
+  helper-walks : (e h : Emission) (size i n : ℕ) (v : Model) (rest : ℕ → ℕ → Walk) → Offer (add start i) n Flow.Helper h → Fine (e .calls)
       → Helps host guest start (step EmitFlow.None e h size start n i rest) v (Rv64.stopped (Rv64.hart (v .slots) (add start i)) n RS.Stop.Helper)
   unfolding step helped
-  helper-walks e h size i n v rest o z φ =
+  helper-walks e h size i n v rest o φ =
       let p : h .flow ≡ EmitFlow.Terminate = took-one (h .flow) (o .agrees) in
       rw p
       (record {
@@ -285,7 +264,6 @@ module _ (r₀ : ℕ → ℕ) (start : ℕ) (host : Host) (guest : List ℕ) whe
         slots = φ .slots v;
         pc = refl;
         count = refl;
-        zero = z;
         why = refl;
       })
 
@@ -315,23 +293,22 @@ module _ (r₀ : ℕ → ℕ) (start : ℕ) (host : Host) (guest : List ℕ) whe
         slots = ap (λ (u : Model). u .slots) (run-append cs _ v) ∙ y .slots;
         pc = y .pc;
         count = y .count;
-        zero = y .zero;
         why = y .why;
       })
 
   step-walks : (f : Flow) (x : List ℕ) (e h : Emission) (size i n : ℕ) (v : Model) (rest : ℕ → ℕ → Walk) (run : Hart → Ran)
-      → Offer (add start i) n f h → Matches size (add start i) v x f e → Stays f x (v .slots) → getD x 0 0 ≡ 0 → Kept r₀ true v
+      → Offer (add start i) n f h → Matches size (add start i) v x f e → Stays f x (v .slots) → Kept r₀ true v
       → Follows (i + size) (rest (suc n) (i + size)) run
       → Follow (step (e .flow) e h size start n i rest) v (Rv64.onward f x (add start i) n run)
   unfolding step Rv64.onward next-calls
-  step-walks (Flow.Next to) x e h size i n v rest run o m st z κ go =
+  step-walks (Flow.Next to) x e h size i n v rest run o m st κ go =
       let cs = e .calls in
       let stay : all-keep true cs ≡ true = is-true (all-keep true cs) (m .stay) in
       let κ′ : Kept r₀ true (calls-run cs v) = rw stay at (calls-kept r₀ cs true v (m .does .fit) (m .does .range) κ) in
       let p : to ≡ add start (i + size) = m .next ∙ omega arith in
       rw (m .flow, p, ← (m .does .slots))
-      (front-walks cs (rest (suc n) (i + size)) v _ (m .does .fit) stay (m .does .range) (go (calls-run cs v) κ′ (rw (m .does .slots) z)))
-  step-walks (Flow.Ended to) x e h size i n v rest run o m st z κ go =
+      (front-walks cs (rest (suc n) (i + size)) v _ (m .does .fit) stay (m .does .range) (go (calls-run cs v) κ′))
+  step-walks (Flow.Ended to) x e h size i n v rest run o m st κ go =
       let q = append-nil (e .calls) in
       rw (m .flow)
       (inl (record {
@@ -342,8 +319,8 @@ module _ (r₀ : ℕ → ℕ) (start : ℕ) (host : Host) (guest : List ℕ) whe
         next = rw q (m .next);
         count = omega arith;
       }))
-  step-walks Flow.Helper x e h size i n v rest run o m st z κ go = rw (m .flow, st) (inr (helper-walks e h size i n v rest o (rw st at z) (m .fine)))
-  step-walks Flow.Uncovered x e h size i n v rest run o m st z κ go =
+  step-walks Flow.Helper x e h size i n v rest run o m st κ go = rw (m .flow, st) (inr (helper-walks e h size i n v rest o (m .fine)))
+  step-walks Flow.Uncovered x e h size i n v rest run o m st κ go =
       rw (m .flow, st) (inl (uncovered-walks e h size i n v rest (o .quiet) (o .agrees) (m .fine)))
 
   -- FENCE.I, the last of the walk and of the guest's run
@@ -362,13 +339,13 @@ module _ (r₀ : ℕ → ℕ) (start : ℕ) (host : Host) (guest : List ℕ) whe
   -- left: how many instructions follow one of so many bytes
   instr-walks : (a b c : Bool) (w u : ℕ) → eqb (w % 4) 3 ≡ b → (b ≡ true → eqb (u % 4) 3 ≡ true) → (i n : ℕ) → fetch (add start i) guest i ≡ found a b c w u
       → (v : Model) (left : ℕ → ℕ) (run : ℕ → Hart → Ran)
-      → w < 2 ^ 16 → u < 2 ^ 32 → Kept r₀ true v → getD (v .slots) 0 0 ≡ 0
+      → w < 2 ^ 16 → u < 2 ^ 32 → Kept r₀ true v
       → ((size : ℕ) → size % 2 ≡ 0 → Follows (i + size) (walk host guest start (left size) (suc n) (i + size)) (run size))
       → Follow (instr-walk host (found a b c w u) start n i (walk host guest start (behind (found a b c w u) left))) v
       (Rv64.step (cond (not a) RF.Fetched.Missing (cond (not b) (RF.Fetched.Found (C.decode16 (host .«ignore_ebreak») w) 2) (cond (not c) RF.Fetched.Missing (RF.Fetched.Found (D.decode32 u) 4)))) (Rv64.hart (v .slots) (add start i)) n run)
   unfolding instr-walk behind emit-native emit-term-helper Rv64.step next-calls
-  instr-walks false b c w u qw qu i n fe v left run hw hu κ z go = inl (stop-walks [] n (add start i) Stop.NotFetched RS.Stop.NotFetched v refl nothing (omega arith))
-  instr-walks true false c w u qw qu i n fe v left run hw hu κ z go =
+  instr-walks false b c w u qw qu i n fe v left run hw hu κ go = inl (stop-walks [] n (add start i) Stop.NotFetched RS.Stop.NotFetched v refl nothing (omega arith))
+  instr-walks true false c w u qw qu i n fe v left run hw hu κ go =
       let j = C.decode16 (host .«ignore_ebreak») w in
       let f = narrow w qw in
       rw (qw, f)
@@ -378,10 +355,10 @@ module _ (r₀ : ℕ → ℕ) (start : ℕ) (host : Host) (guest : List ℕ) whe
         agrees = exec-helps j 2 (add start i) (v .slots) (TH.emit-native-term-helper16 host (add start i) w n .flow) (sorts16 host (add start i) w n (host .«ignore_ebreak») hw);
         taken = λ t. record { index = i; instr = w; at = refl; found = fe; is = rw qw refl; flow = t };
       })
-      (agrees16 r₀ (add start i) v κ z w hw (host .«ignore_ebreak»))
-      (exec-stays j 2 (add start i) (v .slots)) (exec-zero j 2 (add start i) (v .slots) ∙ z) κ (go 2 refl))
-  instr-walks true true false w u qw qu i n fe v left run hw hu κ z go = inl (stop-walks [] n (add start i) Stop.NotFetched RS.Stop.NotFetched v refl nothing (omega arith))
-  instr-walks true true true w u qw qu i n fe v left run hw hu κ z go =
+      (agrees16 r₀ (add start i) v κ w hw (host .«ignore_ebreak»))
+      (exec-stays j 2 (add start i) (v .slots)) κ (go 2 refl))
+  instr-walks true true false w u qw qu i n fe v left run hw hu κ go = inl (stop-walks [] n (add start i) Stop.NotFetched RS.Stop.NotFetched v refl nothing (omega arith))
+  instr-walks true true true w u qw qu i n fe v left run hw hu κ go =
       let j = D.decode32 u in
       by (is-fence-i u)
       (λ f. let s = fences32 (add start i) u f in rw (qu refl, f, s .instr, s .emission) (inl (unfold step walk exec Rv64.onward in (fence-walks i n v))))
@@ -393,8 +370,8 @@ module _ (r₀ : ℕ → ℕ) (start : ℕ) (host : Host) (guest : List ℕ) whe
         agrees = exec-helps j 4 (add start i) (v .slots) (TH.emit-native-term-helper32 host (add start i) u (Rust.decode32 u) n .flow) (unfold D.decode32 in (rw f at (sorts32 host (add start i) u n)));
         taken = λ t. record { index = i; instr = u; at = refl; found = fe; is = rw (qu refl) refl; flow = t };
       })
-      (agrees32 r₀ (add start i) v κ z u hu f)
-      (exec-stays j 4 (add start i) (v .slots)) (exec-zero j 4 (add start i) (v .slots) ∙ z) κ (go 4 refl)))
+      (agrees32 r₀ (add start i) v κ u hu f)
+      (exec-stays j 4 (add start i) (v .slots)) κ (go 4 refl)))
 
   -- what is fetched at an even PC
   fetched : (i : ℕ) → add start i % 2 ≡ 0
@@ -403,14 +380,14 @@ module _ (r₀ : ℕ → ℕ) (start : ℕ) (host : Host) (guest : List ℕ) whe
   fetched i he = rw (eq-eqb (add start i % 2) 0 he, word-at guest i)
 
   -- the whole walk, up to the first FENCE.I
-  pub walk-walks : Bytes guest → start < 2 ^ 64 → (k n i : ℕ) (v : Model) → add start i % 2 ≡ 0 → Kept r₀ true v → getD (v .slots) 0 0 ≡ 0
+  pub walk-walks : Bytes guest → start < 2 ^ 64 → (k n i : ℕ) (v : Model) → add start i % 2 ≡ 0 → Kept r₀ true v
       → Follow (walk host guest start (cut guest start k i) n i) v (Rv64.run (host .«ignore_ebreak») k n (drop i guest) (Rv64.hart (v .slots) (add start i)))
   unfolding walk cut Rv64.run Rv64.fetch next-calls
-  walk-walks hb hs zero n i v he κ z = inl (stop-walks [] n (add start i) Stop.Limit RS.Stop.Limit v refl nothing (omega arith))
-  walk-walks hb hs (suc k) n i v he κ z =
+  walk-walks hb hs zero n i v he κ = inl (stop-walks [] n (add start i) Stop.Limit RS.Stop.Limit v refl nothing (omega arith))
+  walk-walks hb hs (suc k) n i v he κ =
       let p : n + 1 ≡ suc n = omega arith in
       let l : length (drop i guest) ≡ length guest - i = length-drop i guest in
       rw (fetched i he, from-drop 2 guest i, from-drop 4 guest i, l, short i 2 (length guest) (omega arith), short i 4 (length guest) (omega arith))
       (instr-walks (leb (i + 2) (length guest)) (eqb (load 2 guest i % 4) 3) (leb (i + 4) (length guest)) (load 2 guest i) (load 4 guest i) refl (wide guest i) i n (fetched i he) v
-      (λ size. cut guest start k (i + size)) (λ size. Rv64.run (host .«ignore_ebreak») k (n + 1) (drop size (drop i guest))) (load-lt 2 guest i hb) (load-lt 4 guest i hb) κ z
-      (λ size e u κ′ z′. rw (p, drop-drop size i guest) (walk-walks hb hs k (suc n) (i + size) u (omega (arith, he, e)) κ′ z′)))
+      (λ size. cut guest start k (i + size)) (λ size. Rv64.run (host .«ignore_ebreak») k (n + 1) (drop size (drop i guest))) (load-lt 2 guest i hb) (load-lt 4 guest i hb) κ
+      (λ size e u κ′. rw (p, drop-drop size i guest) (walk-walks hb hs k (suc n) (i + size) u (omega (arith, he, e)) κ′)))

@@ -25,7 +25,7 @@ use Rattle.a64_run.proofs.Straight.{Straight, straight-append, straight-run}
 use Rattle.rv64_run.specs.declared.run.Ran.{Ran}
 use Rattle.rv64_run.specs.Run as Rv64
 use Rattle.emit_native.specs.declared.Host.{Host}
-use Rattle.emit_native.specs.Calls.{Call, emit, words-in, words}
+use Rattle.emit_native.specs.Calls.{Call, emit, product, words-in, words}
 use Rattle.jit_arm64.specs.declared.block.Stop.{Stop}
 use Rattle.jit_arm64.specs.Block.{Walk, fetch, fetch-upper, emit-term-helper, end-calls, block-calls, block-of}
 use Rattle.jit_arm64.specs.Parts.{fence-walk}
@@ -94,49 +94,66 @@ module _ (h : Host) (hm : h .«memory_helper» < 2 ^ 64) (h32 : h .helper32 < 2 
   abbrev o : ℕ
   o = h .«slot_offset»
 
-  module _ (s : State) (x : List ℕ) (ε : Entry (h .«slot_offset») s x) (σ : Stack (h .«slot_offset») s) where
-    abbrev g : Ran
-    g = Rv64.run (h .«ignore_ebreak») (Rv64.clamped limit) 0 guest (Rv64.hart x pc)
+  -- the helper's calls, behind those of the instructions before it, from any model
+  module _ (s : State) (v₀ : Model) (κ₀ : Kept (reg s) true v₀) where
+    abbrev run-from : Ran
+    run-from = Rv64.run (h .«ignore_ebreak») (Rv64.clamped limit) 0 guest (Rv64.hart (v₀ .slots) pc)
 
-    y : Helps h guest pc W (entered s x) g
-    y = by (block-walks h pc limit guest hb hp he s x ε)
+    pub helps : Helps h guest pc W v₀ run-from
+    helps = by (block-walks h pc limit guest hb hp he (reg s) v₀ κ₀)
       where
-        by : Follow (reg s) pc h guest W (entered s x) g → Helps h guest pc W (entered s x) g
+        by : Follow (reg s) pc h guest W v₀ run-from → Helps h guest pc W v₀ run-from
         by (inl w) = absurd (w .free helped)
         by (inr w) = w
+
+    abbrev before : Model
+    before = calls-run (helps .front) v₀
+
+    pub kept-before : Kept (reg s) true before
+    kept-before = rw (helps .stay) at (calls-kept (reg s) (helps .front) true v₀ (helps .fit) (helps .range) κ₀)
+
+    pc-small : W .pc < 2 ^ 64
+    pc-small = omega (arith, helps .taken .at)
+
+    abbrev instr : ℕ
+    instr = helps .taken .instr
+
+    arranged-by : ((eqb (instr % 4) 3 ≡ true) × (instr < 2 ^ 32)) ⊎ ((eqb (instr % 4) 3 ≡ false) × (instr < 2 ^ 16))
+        → Arranged (helps .helper .calls) before (run-from .count) (Spec.call h s (before .slots) instr (W .pc))
+    unfolding emit-term-helper
+    arranged-by (inl (e, l)) =
+        let i : helps .helper ≡ TH.emit-native-term-helper32 h (W .pc) instr (Rust.decode32 instr) (run-from .count) = rw e at (helps .taken .is) in
+        rw i (takes32 s before kept-before (run-from .count) (W .pc) pc-small h hm h32 h16 instr l e (rw i at (helps .taken .flow)))
+    arranged-by (inr (e, l)) =
+        let i : helps .helper ≡ TH.emit-native-term-helper16 h (W .pc) instr (run-from .count) = rw e at (helps .taken .is) in
+        rw i (takes16 s before kept-before (run-from .count) (W .pc) pc-small h hm h32 h16 instr l e (rw i at (helps .taken .flow)))
+
+    pub arranged : Arranged (helps .helper .calls) before (run-from .count) (Spec.called h guest pc s run-from)
+    arranged =
+        let τ = helps .taken in
+        let f = fetched guest hb (W .pc) (τ .index) (τ .instr) (τ .found) in
+        let i : sub (W .pc) pc ≡ τ .index = omega (arith, τ .at, f .inside, hl, hp) in
+        rw (← helps .pc, i, f .is, ← helps .slots) (arranged-by (f .width))
+
+  module _ (s : State) (x : List ℕ) (ε : Entry (h .«slot_offset») s x) (σ : Stack (h .«slot_offset») s) where
+    abbrev g : Ran
+    g = Rv64.run (h .«ignore_ebreak») (Rv64.clamped limit) 0 guest (Rv64.start x pc)
+
+    abbrev y : Helps h guest pc W (entered s x) g
+    y = helps s (entered s x) (kept o s x ε)
 
     -- before the helper's calls
     abbrev v : Model
     v = calls-run (y .front) (entered s x)
 
     κ : Kept (reg s) true v
-    κ = rw (y .stay) at (calls-kept (reg s) (y .front) true (entered s x) (y .fit) (y .range) (kept o s x ε))
-
-    pc-small : W .pc < 2 ^ 64
-    pc-small = omega (arith, y .taken .at)
+    κ = kept-before s (entered s x) (kept o s x ε)
 
     few : g .count < 2 ^ 64
     few = omega (arith, count-small h guest pc limit, y .count)
 
-    abbrev instr : ℕ
-    instr = y .taken .instr
-
-    arranged-by : ((eqb (instr % 4) 3 ≡ true) × (instr < 2 ^ 32)) ⊎ ((eqb (instr % 4) 3 ≡ false) × (instr < 2 ^ 16))
-        → Arranged (y .helper .calls) v (g .count) (Spec.call h s (v .slots) instr (W .pc))
-    unfolding emit-term-helper
-    arranged-by (inl (e, l)) =
-        let i : y .helper ≡ TH.emit-native-term-helper32 h (W .pc) instr (Rust.decode32 instr) (g .count) = rw e at (y .taken .is) in
-        rw i (takes32 s v κ (rw (y .slots) (y .zero)) (g .count) (W .pc) pc-small h hm h32 h16 instr l e (rw i at (y .taken .flow)))
-    arranged-by (inr (e, l)) =
-        let i : y .helper ≡ TH.emit-native-term-helper16 h (W .pc) instr (g .count) = rw e at (y .taken .is) in
-        rw i (takes16 s v κ (rw (y .slots) (y .zero)) (g .count) (W .pc) pc-small h hm h32 h16 instr l e (rw i at (y .taken .flow)))
-
     a : Arranged (y .helper .calls) v (g .count) (Spec.called h guest pc s g)
-    a =
-        let τ = y .taken in
-        let f = fetched guest hb (W .pc) (τ .index) (τ .instr) (τ .found) in
-        let i : sub (W .pc) pc ≡ τ .index = omega (arith, τ .at, f .inside, hl, hp) in
-        rw (← y .pc, i, f .is, ← y .slots) (arranged-by (f .width))
+    a = arranged s (entered s x) (kept o s x ε)
 
     -- ---- the words
 
@@ -219,10 +236,14 @@ module _ (h : Host) (hm : h .«memory_helper» < 2 ^ 64) (h32 : h .helper32 < 2 
     slot-apart n hn (inl e) = inl (omega (arith, e, ε .inside n hn, σ .inside))
     slot-apart n hn (inr e) = inr (omega (arith, e, ε .inside n hn, σ .inside))
 
-    slot-holds : (n : ℕ) → n < 32 → load 8 (saved .mem) (place s o n) ≡ getD (g .hart .x) n 0
-    slot-holds n hn =
+    slot-kept : (n : ℕ) → n < 32 → load 8 (saved .mem) (place s o n) ≡ load 8 (goes .0) (place s o n)
+    slot-kept n hn =
         load-other 8 (goes .0) (cell s) (reg passed 30) (place s o n) (omega (arith, at-cell)) (rw (goes .2 .size) (omega (arith, ε .inside n hn))) (slot-apart n hn (σ .apart n hn))
-        ∙ goes .2 .holds n hn
+
+    slot-holds : (n : ℕ) → 1 ≤ n → n < 32 → load 8 (saved .mem) (place s o n) ≡ getD (g .hart .x) n 0
+    slot-holds n pn hn =
+        slot-kept n hn
+        ∙ goes .2 .holds n pn hn
         ∙ ap (λ (l : List ℕ). getD l n 0) (ap (λ (z : Model). z .slots) u-is ∙ a .fine .slots v ∙ y .slots)
 
     elsewhere : (j : ℕ) → Outside s o j → Beside s j → getD (saved .mem) j 0 ≡ getD (s .mem) j 0
@@ -265,7 +286,7 @@ module _ (h : Host) (hm : h .«memory_helper» < 2 ^ 64) (h32 : h .helper32 < 2 
     -- ---- both
 
     abbrev block : List ℕ
-    block = block-of h W .code
+    block = block-of product h W .code
 
     block-is : A64.words block ≡ ws ++ (blr 16 ∷ (bs ++ (ret ∷ [])))
     block-is = ap (λ (l : List ℕ). A64.words (bytes l)) all-words ∙ words-bytes _ fits-words
@@ -298,6 +319,7 @@ module _ (h : Host) (hm : h .«memory_helper» < 2 ^ 64) (h32 : h .helper32 < 2 
           instructions = omega (arith, y .count);
           before = y .why;
           slots = slot-holds;
+          slot-0 = slot-kept 0 (omega arith) ∙ goes .2 .first;
           arguments = λ k l. other address k (omega (arith, l, a .few)) ∙ argument k l;
           x16 = other address 16 (omega arith) ∙ rw (← u-is) at (a .x16);
           sp = refl;
@@ -311,5 +333,5 @@ module _ (h : Host) (hm : h .«memory_helper» < 2 ^ 64) (h32 : h .helper32 < 2 
         })
 
   -- the whole of document 02, No. 5, for the block of the walk
-  pub helper-block : HelperBlock h guest pc limit (block-of h W .code) (W .count)
+  pub helper-block : HelperBlock h guest pc limit (block-of product h W .code) (W .count)
   helper-block address budget s x ε σ hl = calls s x ε σ address budget hl

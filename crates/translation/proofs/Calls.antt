@@ -26,7 +26,8 @@ use Rattle.a64_alu.specs.Alu.{op-value, compared, holds}
 use Rattle.a64_run.proofs.Straight.{Straight, straight-append, one-form}
 use Rattle.a64_exec.proofs.Slots.{Apart, Slots, slot-stored}
 use Rattle.a64_emitter.specs.Writers as Writers
-use Rattle.emit_native.specs.Calls.{Call, emit, mov-imm64, load, store, reg-off, rust, call-words, words-in, words}
+use Rattle.rv64.specs.Execute.{read}
+use Rattle.emit_native.specs.Calls.{Call, emit, mov-imm64, load, store, reg-off, product, call-words, words-in, words}
 use Rattle.translation.proofs.Registers.{upd, tab, length-tab, set-tab, operand-tab}
 use Rattle.translation.proofs.Constants.{constant-goes}
 
@@ -66,7 +67,7 @@ unfoldable pub call-step : Call → Model → Model
 unfolding form-step
 call-step (emit w) v = form-step (decode w) v
 call-step (mov-imm64 d c) v = result v d c
-call-step (load d n) v = result v d (getD (v .slots) n 0)
+call-step (load d n) v = result v d (read (v .slots) n)
 call-step (store d n) v = model (v .r) (v .f) (set (v .slots) n (operand v d))
 
 unfoldable pub calls-run : List Call → Model → Model
@@ -141,7 +142,7 @@ abbrev pub In : Call → Type 0
 In (emit w) = Unit {0}
 In (mov-imm64 d c) = c < 2 ^ 64
 In (load d n) = n < 32
-In (store d n) = n < 32
+In (store d n) = (1 ≤ n) × (n < 32)
 
 abbrev pub AllIn : List Call → Type 0
 AllIn [] = Unit {0}
@@ -203,7 +204,11 @@ op-lt Sdiv x y hx hy = unfold sdiv signed in (cond-lt (xor (sign x) (sign y)) (o
 operand-lt : (v : Model) → ((k : ℕ) → v .r k < 2 ^ 64) → (k : ℕ) → operand v k < 2 ^ 64
 operand-lt v h k = cond-lt (eqb k 31) (omega arith) (h k)
 
-scratch-lt : (d : ℕ) → T (scratch d) → d < 31
+pub read-lt : {r₀ : ℕ → ℕ} {b : Bool} {v : Model} → Kept r₀ b v → (n : ℕ) → read (v .slots) n < 2 ^ 64
+unfolding read
+read-lt κ n = cond-lt (eqb n 0) (omega arith) (κ .small n)
+
+pub scratch-lt : (d : ℕ) → T (scratch d) → d < 31
 unfolding scratch
 scratch-lt d t = by (eqb d 0) (leb 9 d) (leb d 17) refl refl t
   where
@@ -266,7 +271,7 @@ call-kept : (r₀ : ℕ → ℕ) (b : Bool) (c : Call) (v : Model) → T (fits b
 unfolding fits keeps call-step
 call-kept r₀ b (emit w) v t h κ = form-kept r₀ b (decode w) v t κ
 call-kept r₀ b (mov-imm64 d c) v t h κ = put-kept r₀ b v κ d c t h
-call-kept r₀ b (load d n) v t h κ = put-kept r₀ b v κ d _ (and-l (scratch d) _ t) (κ .small n)
+call-kept r₀ b (load d n) v t h κ = put-kept r₀ b v κ d _ (and-l (scratch d) _ t) (read-lt κ n)
 call-kept r₀ b (store d n) v t h κ =
     record {
       base = κ .base;
@@ -362,24 +367,27 @@ module _ (p : ℕ → ℕ) (m₀ : List ℕ) (base sp o : ℕ) (r₀ : ℕ → �
   form-slots Ret v = refl
   form-slots Unreadable v = refl
 
+  -- register 0 is a constant, any other its slot
+  load-goes : (d n : ℕ) (v : Model) (m : List ℕ) → d < 31 → n < 32 → Kept r₀ true v → Slots p m₀ m (v .slots) → (c : Bool) → eqb n 0 ≡ c
+      → Straight (cond c (Writers.movz d 0) (Writers.ldr-x d 0 (reg-off o n)) ∷ []) (real base sp v m) (real base sp (result v d (cond c 0 (getD (v .slots) n 0))) m)
+  load-goes d n v m hd h κ s true q = unfold Writers.mov-imm64 Writers.movk in (constant-real base sp v m d 0 hd (omega arith))
+  load-goes d n v m hd h κ s false q =
+      let pn : 1 ≤ n = omega (arith, eqb-false n 0 q) in
+      one-form (Ldr d 0 (reg-off o n / 8)) _ _ (omega arith, omega arith, in-offset n h)
+      (unfold exec in (rw (slot-address v m n h κ, slot-reaches v m n h (s .size), back n, s .holds n pn h, set-tab)))
+
   call-goes : (b : Bool) (c : Call) (v : Model) (m : List ℕ) → T (fits b c) → In c → Kept r₀ b v → Slots p m₀ m (v .slots)
-      → Goes p m₀ base sp (call-words rust o c) v m (call-step c v)
-  unfolding fits call-step
+      → Goes p m₀ base sp (call-words product o c) v m (call-step c v)
+  unfolding fits call-step read
   call-goes b (emit w) v m t h κ s = (m, (real base sp (form-step (decode w) v) m, form-goes (decode w) v m t, refl), rw (form-slots (decode w) v) s)
   call-goes b (mov-imm64 d c) v m t h κ s = (m, constant-real base sp v m d c (scratch-lt d t) h, s)
-  call-goes true (load d n) v m t h κ s =
-      let hd : d < 31 = scratch-lt d (and-l (scratch d) true t) in (
-        m,
-        one-form (Ldr d 0 (reg-off o n / 8)) _ _ (omega arith, omega arith, in-offset n h)
-            (unfold exec in (rw (slot-address v m n h κ, slot-reaches v m n h (s .size), back n, s .holds n h, set-tab))),
-        s,
-      )
+  call-goes true (load d n) v m t h κ s = (m, load-goes d n v m (scratch-lt d (and-l (scratch d) true t)) h κ s (eqb n 0) refl, s)
   call-goes true (store d n) v m t h κ s =
       let hd : d < 32 = ltb→lt d 32 (and-l (ltb d 32) true t) in (
         Le.store 8 m (p n) (operand v d),
-        one-form (Str d 0 (reg-off o n / 8)) _ _ (hd, omega arith, in-offset n h)
-            (unfold exec in (rw (slot-address v m n h κ, slot-reaches v m n h (s .size), back n, operand-tab (v .r) d hd))),
-        slot-stored p m₀ m (v .slots) apart s n (operand v d) h (operand-lt v (κ .regs) d),
+        one-form (Str d 0 (reg-off o n / 8)) _ _ (hd, omega arith, in-offset n (h .1))
+            (unfold exec in (rw (slot-address v m n (h .1) κ, slot-reaches v m n (h .1) (s .size), back n, operand-tab (v .r) d hd))),
+        slot-stored p m₀ m (v .slots) apart s n (operand v d) (h .0) (h .1) (operand-lt v (κ .regs) d),
       )
   call-goes false (load d n) v m t h κ s = absurd (and-r (scratch d) false t)
   call-goes false (store d n) v m t h κ s = absurd (and-r (ltb d 32) false t)
@@ -393,4 +401,4 @@ module _ (p : ℕ → ℕ) (m₀ : List ℕ) (base sp o : ℕ) (r₀ : ℕ → �
       let t1 : T (fits b c) = and-l (fits b c) _ t in
       let g = call-goes b c v m t1 (h .0) κ s in
       let r = calls-go cs (keeps b c) (call-step c v) (g .0) (and-r (fits b c) _ t) (h .1) (call-kept r₀ b c v t1 (h .0) κ) (g .2) in
-      (r .0, straight-append (call-words rust o c) (words o cs) _ _ _ (g .1) (r .1), r .2)
+      (r .0, straight-append (call-words product o c) (words o cs) _ _ _ (g .1) (r .1), r .2)

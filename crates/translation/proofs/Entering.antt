@@ -7,7 +7,8 @@ use Prim.Native.Nat.{ℕ, zero, suc, _+_, _-_, _*_, _/_, _%_, _^_, _≤_, _<_, m
 use native.Mathlib.Nat.{not-suc-le-zero, le-of-suc-le-suc}
 use native.Mathlib.Omega.{arith}
 use lib.Dec.{leb, ltb, T}
-use lib.ListN.{length, getD}
+use lib.ListN.{length, getD, set, length-set}
+use lib.Seq.{getD-set-same, getD-set-other}
 use borrow.Author.Tests.{leb-true, leb-false, ltb-true, ltb-false}
 use Rattle.rules.specs.Limits.{max-instrs, max-slot-offset}
 use Rattle.word.specs.Word.{wrap, add}
@@ -74,9 +75,9 @@ beyond a b base ha hb ne l p q = omega arith
 
 -- ---- the state at entry
 
--- on the model
+-- on the model, where slot 0 is register 0
 abbrev pub entered : State → List ℕ → Model
-entered s x = model (reg s) (s .flags) x
+entered s x = model (reg s) (s .flags) (set x 0 0)
 
 -- the machine after calls, and its slots
 abbrev pub Begun : ℕ → State → List ℕ → List Call → Type 0
@@ -98,12 +99,20 @@ module _ (o : ℕ) (s : State) (x : List ℕ) (ε : Entry o s x) where
           let d : slot s o n ≡ slot s o k → ⊥ = λ e. ne (slots-differ (reg s 0) o n k hn hk e) in
           inr (beyond (slot s o n) (slot s o k) (s .base) (ε .aligned n hn) (ε .aligned k hk) d (leb-false (slot s o k + 8) (slot s o n) q) (ε .inside n hn .0) (ε .inside k hk .0))
 
-  small : (i : ℕ) (c : Bool) → ltb i 32 ≡ c → getD x i 0 < 2 ^ 64
-  small i true q = rw (ε .starts i (ltb-true i 32 q)) (load-lt 8 (s .mem) (place s o i) (ε .bytes))
-  small i false q = rw (getD-past x i (omega (arith, ε .guest, ltb-false i 32 q))) (omega arith)
+  -- but for register 0
+  same : (i : ℕ) → 1 ≤ i → getD (set x 0 0) i 0 ≡ getD x i 0
+  same i h = getD-set-other x 0 i 0 0 (λ e. omega arith)
+
+  small : (i : ℕ) (c : Bool) → ltb i 32 ≡ c → getD (set x 0 0) i 0 < 2 ^ 64
+  small zero c q = rw (getD-set-same x 0 0 0 (omega (arith, ε .guest))) (omega arith)
+  small (suc i) true q = rw (same (suc i) (omega arith), ε .starts (suc i) (omega arith) (ltb-true (suc i) 32 q)) (load-lt 8 (s .mem) (place s o (suc i)) (ε .bytes))
+  small (suc i) false q = rw (same (suc i) (omega arith), getD-past x (suc i) (omega (arith, ε .guest, ltb-false (suc i) 32 q))) (omega arith)
+
+  count : length (set x 0 0) ≡ 32
+  count = length-set x 0 0 ∙ ε .guest
 
   pub kept : Kept (reg s) true (entered s x)
-  kept = record { base = λ t. refl; same = λ k q. refl; count = ε .guest; small = λ i. small i (ltb i 32) refl; regs = ε .small }
+  kept = record { base = λ t. refl; same = λ k q. refl; count = count; small = λ i. small i (ltb i 32) refl; regs = ε .small }
 
   entry : real (s .base) (s .sp) (entered s x) (s .mem) ≡ s
   entry =
@@ -114,7 +123,7 @@ module _ (o : ℕ) (s : State) (x : List ℕ) (ε : Entry o s x) where
   pub begins : o ≤ max-slot-offset → o % 8 ≡ 0 → (cs : List Call) → T (all-fit true cs) → AllIn cs → Begun o s x cs
   begins ho h8 cs fit range =
       let g = calls-go (place s o) (s .mem) (s .base) (s .sp) o (reg s) apart ho at even cs true (entered s x) (s .mem) fit range kept
-      (record { size = refl; count = ε .guest; holds = λ n hn. sym (ε .starts n hn); outside = λ j o. refl })
+      (record { size = refl; count = count; holds = λ n pn hn. sym (same n pn ∙ ε .starts n pn hn); first = refl; outside = λ j o. refl })
       in
       (g .0, subst (λ (z : State). Straight (words o cs) z (real (s .base) (s .sp) (calls-run cs (entered s x)) (g .0))) entry (g .1), g .2)
     where
@@ -127,10 +136,10 @@ module _ (o : ℕ) (s : State) (x : List ℕ) (ε : Entry o s x) where
       even n hn = let e : s .base + place s o n ≡ slot s o n = omega (arith, ε .inside n hn .0) in rw e (ε .aligned n hn)
 
 -- the walk of a block and the guest's run
-pub block-walks : (h : Host) (pc limit : ℕ) (guest : List ℕ) → Bytes guest → pc < 2 ^ 64 → pc % 2 ≡ 0 → (s : State) (x : List ℕ) → Entry (h .«slot_offset») s x
-    → Follow (reg s) pc h guest (fence-walk max-instrs h guest pc limit) (entered s x)
-    (Rv64.run (h .«ignore_ebreak») (Rv64.clamped limit) 0 guest (Rv64.hart x pc))
-block-walks h pc limit guest hb hp he s x ε =
+pub block-walks : (h : Host) (pc limit : ℕ) (guest : List ℕ) → Bytes guest → pc < 2 ^ 64 → pc % 2 ≡ 0 → (r₀ : ℕ → ℕ) (v : Model) → Kept r₀ true v
+    → Follow r₀ pc h guest (fence-walk max-instrs h guest pc limit) v
+    (Rv64.run (h .«ignore_ebreak») (Rv64.clamped limit) 0 guest (Rv64.hart (v .slots) pc))
+block-walks h pc limit guest hb hp he r₀ v κ =
     let e : add pc 0 ≡ pc = omega arith in
     rw (whole-cut h guest pc limit max-instrs)
-    (rw e at (walk-walks (reg s) pc h guest hb hp (min limit max-instrs) 0 0 (entered s x) (rw e he) (kept (h .«slot_offset») s x ε) (ε .starts 0 (omega arith) ∙ ε .zero)))
+    (rw e at (walk-walks r₀ pc h guest hb hp (min limit max-instrs) 0 0 v (rw e he) κ))

@@ -7,7 +7,7 @@ use native.Mathlib.Omega.{arith}
 use lib.Bits.{bitAnd, and-high}
 use lib.Dec.{eqb, leb, T}
 use lib.ListN.{getD, set}
-use borrow.Author.Tests.{eqb-true}
+use borrow.Author.Tests.{eqb-false}
 use Rattle.word.specs.Word.{add}
 use Rattle.a64.specs.Forms.{decode}
 use Rattle.a64_alu.specs.Alu.{op-value, compared, holds, holds-even}
@@ -22,7 +22,7 @@ use Rattle.emit_native.specs.declared.EmitFlow.{EmitFlow}
 use Rattle.emit_native.specs.Hart.{C-EQ, C-NE, C-CS, C-CC, C-GE, C-LT, not-1}
 use Rattle.a64_emitter.specs.Writers.{add-x, and-x, cmp-x, csel-x}
 use Rattle.emit_native.specs.Calls.{Call, emit, mov-imm64, load, store, if-not-0, Emission, continue, terminate, none, calls-first, store-rd, then-store-rd}
-use Rattle.translation.proofs.Calls.{Model, form-step, call-step, calls-run, scratch, form-fits, written, fits, keeps, all-fit, all-keep, AllIn, Kept, and-l, and-r}
+use Rattle.translation.proofs.Calls.{Model, form-step, call-step, calls-run, scratch, form-fits, written, fits, keeps, all-fit, all-keep, AllIn, Kept, and-l, and-r, read-lt}
 use Rattle.translation.proofs.Alus.{body, slliw, srliw, sraiw, Computes, body-law, not-not, not-leb}
 
 -- ---- lists of calls, one after the other
@@ -173,35 +173,26 @@ calls-first-stays : (cs ds : List Call) → Fine cs → T (all-keep true ds) →
 calls-first-stays cs ds φ t = rw (keep-append true cs ds, φ .stay) t
 
 -- X11 into the slot of a register that is not 0
-keep-does : (c : Bool) (d : ℕ) (v : Model) → d < 32
+keep-does : (c : Bool) (d : ℕ) (v : Model) → d < 32 → eqb d 0 ≡ c
     → Does (cond c [] (store 11 d ∷ [])) v (cond c (v .slots) (set (v .slots) d (v .r 11))) × T (all-keep true (cond c [] (store 11 d ∷ [])))
 unfolding all-fit all-keep fits keeps calls-run call-step
-keep-does true d v h = (record { fit = tt; range = tt; slots = refl }, tt)
-keep-does false d v h = (record { fit = tt; range = (h, tt); slots = refl }, tt)
+keep-does true d v h q = (record { fit = tt; range = tt; slots = refl }, tt)
+keep-does false d v h q = (record { fit = tt; range = omega (arith, eqb-false d 0 q); slots = refl }, tt)
 
 -- a constant into the slot of a register that is not 0
-put-does : (c : Bool) (d x : ℕ) (v : Model) → d < 32 → x < 2 ^ 64
+put-does : (c : Bool) (d x : ℕ) (v : Model) → d < 32 → x < 2 ^ 64 → eqb d 0 ≡ c
     → Does (cond c [] (mov-imm64 11 x ∷ store 11 d ∷ [])) v (cond c (v .slots) (set (v .slots) d x))
     × T (all-keep true (cond c [] (mov-imm64 11 x ∷ store 11 d ∷ [])))
 unfolding all-fit all-keep fits keeps scratch calls-run call-step
-put-does true d x v h l = (record { fit = tt; range = tt; slots = refl }, tt)
-put-does false d x v h l = (record { fit = tt; range = (l, (h, tt)); slots = refl }, tt)
-
--- slot 0 is 0, so a slot is its register
-pub read-slot : (rs : List ℕ) → getD rs 0 0 ≡ 0 → (n : ℕ) → read rs n ≡ getD rs n 0
-unfolding read
-read-slot rs z n = by (eqb n 0) refl
-  where
-    by : (c : Bool) → eqb n 0 ≡ c → cond c 0 (getD rs n 0) ≡ getD rs n 0
-    by true q = sym (ap (λ (k : ℕ). getD rs k 0) (eqb-true n 0 q) ∙ z)
-    by false q = refl
+put-does true d x v h l q = (record { fit = tt; range = tt; slots = refl }, tt)
+put-does false d x v h l q = (record { fit = tt; range = omega (arith, eqb-false d 0 q); slots = refl }, tt)
 
 -- fine calls that leave w in X11, and the store after them, where the slots are rs
 kept-does : (cs : List Call) (d w : ℕ) (v : Model) (rs : List ℕ) → Fine cs → d < 32 → calls-run cs v .r 11 ≡ w → v .slots ≡ rs
     → Does (cs ++ if-not-0 d (store 11 d ∷ [])) v (write rs d w) × T (all-keep true (cs ++ if-not-0 d (store 11 d ∷ [])))
 unfolding write
 kept-does cs d w v rs φ hd e q =
-    let κ = keep-does (eqb d 0) d (calls-run cs v) hd in
+    let κ = keep-does (eqb d 0) d (calls-run cs v) hd refl in
     let s : cond (eqb d 0) (calls-run cs v .slots) (set (calls-run cs v .slots) d (calls-run cs v .r 11)) ≡ cond (eqb d 0) rs (set rs d w) =
     rw (φ .slots v, e, q) in
     (calls-first-does cs _ v _ φ (rw (← s) (κ .0)), calls-first-stays cs _ φ (κ .1))
@@ -255,9 +246,9 @@ fork-next k there here v hx hy = fork-is k there here v ∙ ap (λ (b : Bool). c
 pub even : (x : ℕ) → x < 2 ^ 64 → bitAnd x (2 ^ 64 - 2) ≡ x / 2 * 2
 even x h = and-high x 63 1 ∙ omega arith
 
--- ---- the instructions, from a model v in which X0 is the base of the slots and slot 0 is 0
+-- ---- the instructions, from a model v in which X0 is the base of the slots
 
-module _ (r₀ : ℕ → ℕ) (n pc : ℕ) (v : Model) (κ : Kept r₀ true v) (z : getD (v .slots) 0 0 ≡ 0) where
+module _ (r₀ : ℕ → ℕ) (n pc : ℕ) (v : Model) (κ : Kept r₀ true v) where
   -- fine calls after fine ones that leave the result in X11
   result-agrees : (pre cs : List Call) (i : Instr) (d w : ℕ) → Fine pre → Fine cs → d < 32 → calls-run cs (calls-run pre v) .r 11 ≡ w
       → exec i n pc (v .slots) ≡ record { x = write (v .slots) d w; flow = Flow.Next (add pc n) }
@@ -278,8 +269,7 @@ module _ (r₀ : ℕ → ℕ) (n pc : ℕ) (v : Model) (κ : Kept r₀ true v) (
   op-agrees k d a b hd ha hb =
       result-agrees (load 9 a ∷ load 10 b ∷ []) (body k) (Instr.Op k d a b) d (value k (read (v .slots) a) (read (v .slots) b))
       (two a b ha hb) (body-fine k) hd
-      (rw (read-slot (v .slots) z a, read-slot (v .slots) z b)
-      (unfold calls-run call-step in (body-law k (calls-run (load 9 a ∷ load 10 b ∷ []) v) (κ .small a) (κ .small b))))
+      (unfold calls-run call-step in (body-law k (calls-run (load 9 a ∷ load 10 b ∷ []) v) (read-lt κ a) (read-lt κ b)))
       (unfold exec in refl)
 
   -- with a constant for the second operand
@@ -289,34 +279,33 @@ module _ (r₀ : ℕ → ℕ) (n pc : ℕ) (v : Model) (κ : Kept r₀ true v) (
   imm-agrees cs k d a c φ l hd ha hc =
       result-agrees (load 9 a ∷ mov-imm64 10 c ∷ []) cs (Instr.OpImm k d a c) d (value k (read (v .slots) a) c)
       (with-constant a c ha hc) φ hd
-      (rw (read-slot (v .slots) z a)
-      (unfold calls-run call-step in (l (calls-run (load 9 a ∷ mov-imm64 10 c ∷ []) v) (κ .small a) refl)))
+      (unfold calls-run call-step in (l (calls-run (load 9 a ∷ mov-imm64 10 c ∷ []) v) (read-lt κ a) refl))
       (unfold exec in refl)
 
   pub lui-agrees : (d c : ℕ) → d < 32 → c < 2 ^ 64
       → Agrees n pc v (Instr.Lui d c) (continue (if-not-0 d (mov-imm64 11 c ∷ store 11 d ∷ [])))
   unfolding exec write
-  lui-agrees d c hd hc = let p = put-does (eqb d 0) d c v hd hc in record { flow = refl; does = p .0; stay = p .1; next = refl }
+  lui-agrees d c hd hc = let p = put-does (eqb d 0) d c v hd hc refl in record { flow = refl; does = p .0; stay = p .1; next = refl }
 
   pub auipc-agrees : (d c : ℕ) → d < 32
       → Agrees n pc v (Instr.Auipc d c) (continue (if-not-0 d (mov-imm64 11 (add pc c) ∷ store 11 d ∷ [])))
   unfolding exec write
   auipc-agrees d c hd =
-      let p = put-does (eqb d 0) d (add pc c) v hd (omega arith) in record { flow = refl; does = p .0; stay = p .1; next = refl }
+      let p = put-does (eqb d 0) d (add pc c) v hd (omega arith) refl in record { flow = refl; does = p .0; stay = p .1; next = refl }
 
-  jal-by : (l t d : ℕ) (c : Bool) → d < 32 → l < 2 ^ 64 → t < 2 ^ 64
+  jal-by : (l t d : ℕ) (c : Bool) → d < 32 → l < 2 ^ 64 → t < 2 ^ 64 → eqb d 0 ≡ c
       → Does (cond c [] (mov-imm64 11 l ∷ store 11 d ∷ []) ++ (mov-imm64 0 t ∷ [])) v (cond c (v .slots) (set (v .slots) d l))
       × (calls-run (cond c [] (mov-imm64 11 l ∷ store 11 d ∷ []) ++ (mov-imm64 0 t ∷ [])) v .r 0 ≡ t)
   unfolding all-fit fits keeps scratch calls-run call-step
-  jal-by l t d true hd hl ht = (record { fit = tt; range = omega arith; slots = refl }, refl)
-  jal-by l t d false hd hl ht = (record { fit = tt; range = omega arith; slots = refl }, refl)
+  jal-by l t d true hd hl ht q = (record { fit = tt; range = omega arith; slots = refl }, refl)
+  jal-by l t d false hd hl ht q = (record { fit = tt; range = omega (arith, eqb-false d 0 q); slots = refl }, refl)
 
   pub jal-agrees : (d c : ℕ) → d < 32
       → Agrees n pc v (Instr.Jal d c)
       (terminate (if-not-0 d (mov-imm64 11 (add pc n) ∷ store 11 d ∷ []) ++ (mov-imm64 0 (add pc c) ∷ [])))
   unfolding exec write
   jal-agrees d c hd =
-      let p = jal-by (add pc n) (add pc c) d (eqb d 0) hd (omega arith) (omega arith) in record { flow = refl; does = p .0; next = p .1 }
+      let p = jal-by (add pc n) (add pc c) d (eqb d 0) hd (omega arith) (omega arith) refl in record { flow = refl; does = p .0; next = p .1 }
 
   abbrev jalr-calls : Bool → ℕ → ℕ → ℕ → ℕ → List Call
   jalr-calls t l d a c =
@@ -324,22 +313,22 @@ module _ (r₀ : ℕ → ℕ) (n pc : ℕ) (v : Model) (κ : Kept r₀ true v) (
       ∷ (cond t [] (mov-imm64 11 l ∷ store 11 d ∷ [])
       ++ (mov-imm64 10 c ∷ emit (add-x 11 9 10) ∷ mov-imm64 12 not-1 ∷ emit (and-x 0 11 12) ∷ []))
 
-  jalr-by : (l d a c : ℕ) (t : Bool) → d < 32 → a < 32 → l < 2 ^ 64 → c < 2 ^ 64
+  jalr-by : (l d a c : ℕ) (t : Bool) → d < 32 → a < 32 → l < 2 ^ 64 → c < 2 ^ 64 → eqb d 0 ≡ t
       → Does (jalr-calls t l d a c) v (cond t (v .slots) (set (v .slots) d l))
-      × (calls-run (jalr-calls t l d a c) v .r 0 ≡ bitAnd (add (getD (v .slots) a 0) c) (2 ^ 64 - 2))
+      × (calls-run (jalr-calls t l d a c) v .r 0 ≡ bitAnd (add (read (v .slots) a) c) (2 ^ 64 - 2))
   unfolding all-fit fits form-fits keeps written scratch calls-run call-step form-step op-value decode
-  jalr-by l d a c true hd ha hl hc = (record { fit = tt; range = omega arith; slots = refl }, refl)
-  jalr-by l d a c false hd ha hl hc = (record { fit = tt; range = omega arith; slots = refl }, refl)
+  jalr-by l d a c true hd ha hl hc q = (record { fit = tt; range = omega arith; slots = refl }, refl)
+  jalr-by l d a c false hd ha hl hc q = (record { fit = tt; range = omega (arith, eqb-false d 0 q); slots = refl }, refl)
 
   pub jalr-agrees : (d a c : ℕ) → d < 32 → a < 32 → c < 2 ^ 64
       → Agrees n pc v (Instr.Jalr d a c) (terminate (jalr-calls (eqb d 0) (add pc n) d a c))
   unfolding exec write
   jalr-agrees d a c hd ha hc =
-      let p = jalr-by (add pc n) d a c (eqb d 0) hd ha (omega arith) hc in
+      let p = jalr-by (add pc n) d a c (eqb d 0) hd ha (omega arith) hc refl in
       record {
         flow = refl;
         does = p .0;
-        next = p .1 ∙ rw (read-slot (v .slots) z a) (even (add (getD (v .slots) a 0) c) (omega arith));
+        next = p .1 ∙ even (add (read (v .slots) a) c) (omega arith);
       }
 
   pub branch-agrees : (k : Cond) (a b c : ℕ) → a < 32 → b < 32
@@ -350,8 +339,7 @@ module _ (r₀ : ℕ → ℕ) (n pc : ℕ) (v : Model) (κ : Kept r₀ true v) (
         flow = refl;
         does = calls-first-does (load 9 a ∷ load 10 b ∷ []) _ v _ (two a b ha hb)
             (unfold calls-run call-step in (fork-does k (add pc c) (add pc n) (calls-run (load 9 a ∷ load 10 b ∷ []) v) (omega arith) (omega arith)));
-        next = rw (read-slot (v .slots) z a, read-slot (v .slots) z b)
-            (unfold calls-run call-step in (fork-next k (add pc c) (add pc n) (calls-run (load 9 a ∷ load 10 b ∷ []) v) (κ .small a) (κ .small b)));
+        next = unfold calls-run call-step in (fork-next k (add pc c) (add pc n) (calls-run (load 9 a ∷ load 10 b ∷ []) v) (read-lt κ a) (read-lt κ b));
       }
 
   pub nop-agrees : Agrees n pc v Instr.Nop (continue [])

@@ -18,3 +18,4 @@ pub mod Whole
 pub mod Called
 pub mod Examples
 pub mod Translated
+pub mod Loads

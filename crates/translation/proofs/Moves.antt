@@ -12,7 +12,7 @@ use Rattle.a64_exec.specs.Exec.{exec}
 use Rattle.a64_alu.specs.Alu.{op-value}
 use Rattle.a64_emitter.specs.Writers.{mov-x}
 use Rattle.a64_run.proofs.Straight.{Straight, straight-append, one-form}
-use Rattle.emit_native.specs.Calls.{Call, emit, mov-imm64, rust, call-words, words-in, words}
+use Rattle.emit_native.specs.Calls.{Call, emit, mov-imm64, product, call-words, words-in, words}
 use Rattle.translation.proofs.Registers.{upd, set-tab, operand-tab}
 use Rattle.translation.proofs.Calls.{Model, model, cond-lt, real, constant-real}
 
@@ -73,5 +73,5 @@ module _ (base sp o : ℕ) (m : List ℕ) where
   moves-go (from d n ∷ cs) v h =
       straight-append (mov-x d n ∷ []) (words o (map move-call cs)) _ _ _ (move-goes v d n (h .0) (h .1)) (moves-go cs (with-r v (moved (from d n) (v .r))) (h .2))
   moves-go (constant d c ∷ cs) v h =
-      straight-append (call-words rust o (mov-imm64 d c)) (words o (map move-call cs)) _ _ _ (constant-real base sp v m d c (omega arith) (h .1))
+      straight-append (call-words product o (mov-imm64 d c)) (words o (map move-call cs)) _ _ _ (constant-real base sp v m d c (omega arith) (h .1))
       (moves-go cs (with-r v (moved (constant d c) (v .r))) (h .2))

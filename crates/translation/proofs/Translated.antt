@@ -12,6 +12,7 @@ use borrow.Author.Tests.{eqb-true, eqb-false, ltb-false}
 use Rattle.rules.specs.Limits.{max-instrs, max-slot-offset}
 use Rattle.le.specs.Le.{Bytes}
 use Rattle.emit_native.specs.declared.Host.{Host}
+use Rattle.emit_native.specs.Calls.{product}
 use Rattle.jit_arm64.specs.declared.block.Stop.{Stop}
 use Rattle.jit_arm64.specs.Block.{Walk, block-of}
 use Rattle.jit_arm64.specs.Fence.{fence}
@@ -68,15 +69,15 @@ module _ (h : Host) (pc limit : ℕ) (guest out : List ℕ) (hb : Bytes guest) (
   record Accepted : Type 0 where
     offset : bad-slot-offset (h .«slot_offset») ≡ false
     block : refuses h guest pc limit ≡ false
-    is : translate h guest pc limit out ≡ accepted (block-of h W) (end-kind f (W .stop)) out
+    is : translate h guest pc limit out ≡ accepted (block-of product h W) (end-kind f (W .stop)) out
 
-  by : (a t s : Bool) → bad-slot-offset (h .«slot_offset») ≡ a → refuses h guest pc limit ≡ t → ltb (length out) (length (block-of h W .code)) ≡ s
+  by : (a t s : Bool) → bad-slot-offset (h .«slot_offset») ≡ a → refuses h guest pc limit ≡ t → ltb (length out) (length (block-of product h W .code)) ≡ s
       → (translate h guest pc limit out .answer .end ≡ 0 → ⊥) → Accepted
   unfolding translate of-block
   by true t s p q r z = absurd (z (rw p refl))
-  by false true s p q r z = absurd (z (rw (p, no-block-with-fence (max-instrs - 1) h guest pc limit hp, q) refl))
-  by false false true p q r z = absurd (z (rw (p, no-block-with-fence (max-instrs - 1) h guest pc limit hp, q, r) refl))
-  by false false false p q r z = record { offset = p; block = q; is = rw (p, no-block-with-fence (max-instrs - 1) h guest pc limit hp, q, r) refl }
+  by false true s p q r z = absurd (z (rw (p, no-block-with-fence product (max-instrs - 1) h guest pc limit hp, q) refl))
+  by false false true p q r z = absurd (z (rw (p, no-block-with-fence product (max-instrs - 1) h guest pc limit hp, q, r) refl))
+  by false false false p q r z = record { offset = p; block = q; is = rw (p, no-block-with-fence product (max-instrs - 1) h guest pc limit hp, q, r) refl }
 
   some-end : (n : ℕ) → HelperFree n → n ≡ 0 → ⊥
   unfolding end-number
@@ -98,11 +99,11 @@ module _ (h : Host) (pc limit : ℕ) (guest out : List ℕ) (hb : Bytes guest) (
     even : pc % 2 ≡ 0
     even = omega (arith, eqb-false (pc % 2) 1 (second (eqb limit 0) (eqb (pc % 2) 1) (first h guest pc) (a .block)))
 
-    r-is : r ≡ accepted (block-of h W) (end-kind f (W .stop)) out
+    r-is : r ≡ accepted (block-of product h W) (end-kind f (W .stop)) out
     r-is = e ∙ a .is
 
-    code : take (r .answer .length) (r .output) ≡ block-of h W .code
-    code = rw r-is (front (block-of h W .code) (drop (length (block-of h W .code)) out))
+    code : take (r .answer .length) (r .output) ≡ block-of product h W .code
+    code = rw r-is (front (block-of product h W .code) (drop (length (block-of product h W .code)) out))
 
   -- demand 3 for what translation answers, where the end kind is plain or drop
   pub translated : (r : Result) → r ≡ translate h guest pc limit out → HelperFree (r .answer .end)

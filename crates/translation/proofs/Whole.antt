@@ -21,7 +21,7 @@ use Rattle.rv64_run.specs.declared.run.Ran.{Ran}
 use Rattle.rv64_run.specs.Run as Rv64
 use Rattle.emit_native.specs.declared.Host.{Host}
 use Rattle.emit_native.specs.declared.EmitFlow.{EmitFlow}
-use Rattle.emit_native.specs.Calls.{Call, emit, mov-imm64, words-in, words, Emission}
+use Rattle.emit_native.specs.Calls.{Call, emit, mov-imm64, product, words-in, words, Emission}
 use Rattle.jit_arm64.specs.declared.block.Stop.{Stop}
 use Rattle.jit_arm64.specs.Block.{Walk, size-of, step, instr-walk, walk, end-calls, block-calls, whole-walk, block-of}
 use Rattle.jit_arm64.specs.Fence.{fence, limit-at}
@@ -52,15 +52,15 @@ counts w = constant 1 (w .count) ∷ []
 abbrev counted : ℕ → Walk → List ℕ
 counted o w = words o (walk-calls w) ++ words o (map move-call (counts w))
 
+pub block-is : (w : Walk) → (w .stop ≡ Stop.Helper → ⊥) → block-calls w ≡ walk-calls w ++ (mov-imm64 1 (w .count) ∷ emit ret ∷ [])
+block-is w free =
+    ap (λ (l : List Call). w .calls ++ l) (ending-is (w .stop) (w .pc) (w .count) free)
+    ∙ sym (append-assoc (w .calls) (next-calls (w .stop) (w .pc)) (mov-imm64 1 (w .count) ∷ emit ret ∷ []))
+
 block-words : (o : ℕ) (w : Walk) → (w .stop ≡ Stop.Helper → ⊥) → words o (block-calls w) ≡ counted o w ++ (ret ∷ [])
 unfolding words-in flatten
 block-words o w free =
-    let tail = mov-imm64 1 (w .count) ∷ emit ret ∷ [] in
-    let e : block-calls w ≡ walk-calls w ++ (map move-call (counts w) ++ (emit ret ∷ [])) =
-    ap (λ (l : List Call). w .calls ++ l) (ending-is (w .stop) (w .pc) (w .count) free)
-    ∙ sym (append-assoc (w .calls) (next-calls (w .stop) (w .pc)) tail)
-    in
-    ap (words o) e
+    ap (words o) (block-is w free)
     ∙ words-append o (walk-calls w) (map move-call (counts w) ++ (emit ret ∷ []))
     ∙ ap (λ (l : List ℕ). words o (walk-calls w) ++ l) (words-append o (map move-call (counts w)) (emit ret ∷ []))
     ∙ sym (append-assoc (words o (walk-calls w)) (words o (map move-call (counts w))) (ret ∷ []))
@@ -99,10 +99,10 @@ module _ (h : Host) (pc limit : ℕ) (guest : List ℕ) (hb : Bytes guest) (hp :
 
   module _ (s : State) (x : List ℕ) (ε : Entry (h .«slot_offset») s x) where
     abbrev g : Ran
-    g = Rv64.run (h .«ignore_ebreak») (Rv64.clamped limit) 0 guest (Rv64.hart x pc)
+    g = Rv64.run (h .«ignore_ebreak») (Rv64.clamped limit) 0 guest (Rv64.start x pc)
 
     does : Walks W (entered s x) g
-    does = by (block-walks h pc limit guest hb hp he s x ε)
+    does = by (block-walks h pc limit guest hb hp he (reg s) (entered s x) (kept (h .«slot_offset») s x ε))
       where
         by : Follow (reg s) pc h guest W (entered s x) g → Walks W (entered s x) g
         by (inl y) = y
@@ -138,7 +138,8 @@ module _ (h : Host) (pc limit : ℕ) (guest : List ℕ) (hb : Bytes guest) (hp :
           instructions = sym (does .count);
           x0 = getD-tab 31 _ 0 (omega arith) ∙ does .next;
           x1 = getD-tab 31 _ 1 (omega arith);
-          slots = λ n hn. goes .2 .holds n hn ∙ ap (λ (l : List ℕ). getD l n 0) (does .slots);
+          slots = λ n pn hn. goes .2 .holds n pn hn ∙ ap (λ (l : List ℕ). getD l n 0) (does .slots);
+          slot-0 = goes .2 .first;
           size = goes .2 .size;
           memory = λ j o. goes .2 .outside j o;
           base = refl;
@@ -148,7 +149,7 @@ module _ (h : Host) (pc limit : ℕ) (guest : List ℕ) (hb : Bytes guest) (hp :
         }
 
   -- demand 3 for the block of the walk
-  pub demand3 : Demand3 guest pc limit (h .«ignore_ebreak») (h .«slot_offset») (block-of h W .code) (W .count)
+  pub demand3 : Demand3 guest pc limit (h .«ignore_ebreak») (h .«slot_offset») (block-of product h W .code) (W .count)
   demand3 address budget s x ε hl =
       let q : words (h .«slot_offset») (block-calls W) ≡ ws ++ (ret ∷ []) = block-words (h .«slot_offset») W free in
       let w : A64.words (bytes (words (h .«slot_offset») (block-calls W))) ≡ ws ++ (ret ∷ []) =

@@ -38,10 +38,9 @@ pub record Entry (offset : ℕ) (s : State) (x : List ℕ) : Type 0 where
   -- aligned slots, inside memory
   pub aligned : (n : ℕ) → n < 32 → slot s offset n % 8 ≡ 0
   pub inside : (n : ℕ) → n < 32 → (s .base ≤ slot s offset n) × (slot s offset n + 8 ≤ s .base + length (s .mem))
-  -- guest register n starts as slot n; slot 0 is zero
+  -- guest register n starts as slot n, from 1 on; slot 0 may hold anything (document 02, No. 6)
   pub guest : length x ≡ 32
-  pub starts : (n : ℕ) → n < 32 → getD x n 0 ≡ load 8 (s .mem) (place s offset n)
-  pub zero : load 8 (s .mem) (place s offset 0) ≡ 0
+  pub starts : (n : ℕ) → 1 ≤ n → n < 32 → getD x n 0 ≡ load 8 (s .mem) (place s offset n)
 
 -- byte j of memory lies in no slot
 abbrev pub Outside : State → ℕ → ℕ → Type 0
@@ -54,11 +53,12 @@ pub record Ends (offset : ℕ) (s : State) (words count : ℕ) (r : A64.Ran) (g 
   pub steps : r .steps ≡ words
   -- the guest does exactly as many instructions as the count
   pub instructions : g .count ≡ count
-  -- X0 then equals its next PC, X1 that count, the 32 slots its registers
+  -- X0 then equals its next PC, X1 that count, slots 1 to 31 its registers
   pub x0 : reg (r .state) 0 ≡ g .hart .pc
   pub x1 : reg (r .state) 1 ≡ count
-  pub slots : (n : ℕ) → n < 32 → load 8 (r .state .mem) (place s offset n) ≡ getD (g .hart .x) n 0
-  -- all other memory, SP, X2 to X8 and X18 to X30 are as at entry
+  pub slots : (n : ℕ) → 1 ≤ n → n < 32 → load 8 (r .state .mem) (place s offset n) ≡ getD (g .hart .x) n 0
+  -- slot 0, all other memory, SP, X2 to X8 and X18 to X30 are as at entry
+  pub slot-0 : load 8 (r .state .mem) (place s offset 0) ≡ load 8 (s .mem) (place s offset 0)
   pub size : length (r .state .mem) ≡ length (s .mem)
   pub memory : (j : ℕ) → Outside s offset j → getD (r .state .mem) j 0 ≡ getD (s .mem) j 0
   pub base : r .state .base ≡ s .base
@@ -72,4 +72,4 @@ abbrev pub Demand3 : List ℕ → ℕ → ℕ → Bool → ℕ → List ℕ → 
 Demand3 guest pc limit e offset block count =
     (address budget : ℕ) (s : State) (x : List ℕ) → Entry offset s x → length (A64.words block) ≤ budget
     → Ends offset s (length (A64.words block)) count (A64.run (A64.words block) address budget 0 s)
-    (Rv64.run e (Rv64.clamped limit) 0 guest (Rv64.hart x pc))
+    (Rv64.run e (Rv64.clamped limit) 0 guest (Rv64.start x pc))

@@ -143,8 +143,9 @@ pub record Calls (h : Host) (guest : List ℕ) (start : ℕ) (block : List ℕ) 
   -- the guest does the count less one, and stands before the helper's instruction
   pub instructions : g .count + 1 ≡ count
   pub before : g .stop ≡ Stop.Helper
-  -- the slots hold the registers after the prefix
-  pub slots : (n : ℕ) → n < 32 → load 8 (r .state .mem) (place s (h .«slot_offset») n) ≡ getD (g .hart .x) n 0
+  -- slots 1 to 31 hold the registers after the prefix, slot 0 is as at entry
+  pub slots : (n : ℕ) → 1 ≤ n → n < 32 → load 8 (r .state .mem) (place s (h .«slot_offset») n) ≡ getD (g .hart .x) n 0
+  pub slot-0 : load 8 (r .state .mem) (place s (h .«slot_offset») 0) ≡ load 8 (s .mem) (place s (h .«slot_offset») 0)
   -- the argument registers are as document 01 lays them out, X16 is the helper's address
   pub arguments : (k : ℕ) → k < length (called h guest start s g .arguments) → reg (r .state) k ≡ getD (called h guest start s g .arguments) k 0
   pub x16 : reg (r .state) 16 ≡ called h guest start s g .helper
@@ -168,4 +169,4 @@ HelperBlock h guest pc limit block count =
     (address budget : ℕ) (s : State) (x : List ℕ) → Entry (h .«slot_offset») s x → Stack (h .«slot_offset») s
     → length (A64.words block) ≤ budget
     → Calls h guest pc block address s count (A64.run (A64.words block) address budget 0 s)
-    (Rv64.run (h .«ignore_ebreak») (Rv64.clamped limit) 0 guest (Rv64.hart x pc))
+    (Rv64.run (h .«ignore_ebreak») (Rv64.clamped limit) 0 guest (Rv64.start x pc))

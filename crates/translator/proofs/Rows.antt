@@ -1,4 +1,4 @@
--- Document 01's marked blocks, and three about FENCE.I, as one list over which one fact is shown. Assumes nothing.
+-- Document 01's marked blocks, three about FENCE.I and three about register 0, as one list over which one fact is shown. Assumes nothing.
 use Prim.Native.Nat.{ℕ, zero, suc, _*_, _-_}
 use mathlib.Core.Path.{_≡_, refl}
 use mathlib.Core.Bool.{false}
@@ -61,11 +61,17 @@ rows =
     ∷ ending 3 (0x0F ∷ 0x10 ∷ 0x00 ∷ 0x00 ∷ 0x7D ∷ 0x55 ∷ []) 64 0x1000 (0xD2820080 ∷ 0xD2800021 ∷ 0xD65F03C0 ∷ []) 1
     ∷ ending 3 (0x01 ∷ 0x00 ∷ 0x8F ∷ 0x9F ∷ 0xFF ∷ 0xFF ∷ []) 2 0x1000 (0xD28200C0 ∷ 0xD2800041 ∷ 0xD65F03C0 ∷ []) 2
     ∷ row (0x0F ∷ 0x00 ∷ 0xF0 ∷ 0x0F ∷ 0x01 ∷ 0x00 ∷ []) 64 0x1000 (0xD28200C0 ∷ 0xD2800041 ∷ 0xD65F03C0 ∷ []) 2
+    ∷ row (0x93 ∷ 0x02 ∷ 0x10 ∷ 0x00 ∷ []) 1 0x1000
+    (0xD2800009 ∷ 0xD280002A ∷ 0x8B0A012B ∷ 0xF900140B ∷ 0xD2820080 ∷ 0xD2800021 ∷ 0xD65F03C0 ∷ []) 1
+    ∷ row (0x01 ∷ 0x00 ∷ 0xB3 ∷ 0x02 ∷ 0x00 ∷ 0x0C ∷ []) 2 0x1000 (0xD2800009 ∷ 0xD280000A ∷ 0xD2820040 ∷ 0xD2800021 ∷ 0xD65F03C0 ∷ []) 1
+    ∷ ending 2 (0x23 ∷ 0x34 ∷ 0x00 ∷ 0x00 ∷ []) 1 0x1000
+    (0xD2800009 ∷ 0xD280010A ∷ 0x8B0A012B ∷ 0xD280000C ∷ 0xAA1F0020 ∷ 0xAA1F0041 ∷ 0xAA1F0062 ∷ 0xD2800263 ∷ 0xD2800104 ∷ 0xAA1F0185
+    ∷ 0xAA1F0166 ∷ 0xD2820007 ∷ 0xD2800010 ∷ 0xF2A00030 ∷ 0xD10043FF ∷ 0xF90003FE ∷ 0xD63F0200 ∷ 0xF94003FE ∷ 0x910043FF ∷ 0xD65F03C0 ∷ []) 1
     ∷ []
 
--- with room for 8 words
+-- with room for 20 words
 room : List ℕ
-room = replicate 32 0xEE
+room = replicate 80 0xEE
 
 found : Row → T.Result
 found r = T.translate host (r .guest) (r .pc) (r .limit) room
@@ -74,8 +80,8 @@ found r = T.translate host (r .guest) (r .pc) (r .limit) room
 said : Row → T.Result
 said r =
     T.result (record { refusal = r .refusal; length = 4 * length (r .words); count = r .count; end = r .end })
-    (bytes (r .words) ++ replicate (32 - 4 * length (r .words)) 0xEE)
+    (bytes (r .words) ++ replicate (80 - 4 * length (r .words)) 0xEE)
 
 all-rows : map found rows ≡ map said rows
-unfolding rows ending row refusing nops room found said host B.is-missing F.fence-or F.to-fence F.fence F.limit-at T.end-kind T.end-number T.no-block T.of-block T.translate B.fetch-upper B.fetch B.emit-native B.emit-term-helper B.helped B.step B.instr-walk B.walk B.end-calls B.whole-walk B.compile-native-block Calls.words-in Calls.store-rd Rust.sign-extend Rust.imm-ci Rust.shamt Rust.imm-addi4spn Rust.imm-addi16sp Rust.imm-cj Rust.imm-cb I16.addi4spn I16.quadrant-0 I16.c-addi I16.c-addiw I16.c-li I16.c-addi16sp I16.c-lui I16.c-srli I16.c-srai I16.c-andi I16.c-alu I16.c-group I16.c-j I16.c-branch-on I16.c-branch I16.c-addi16sp-lui I16.quadrant-1 I16.c-slli I16.c-jr I16.c-mv I16.c-ebreak I16.c-jalr I16.c-add I16.c-jump-move-add I16.quadrant-2 I16.emit-native-instr16 I32.misc-mem I32.emit-native-instr TH.supports TH.emit-native-term-helper16 Writers.movk Writers.mov-imm64 Le.number Le.load Le.bytes Le.all-bytes W.asr flatten
+unfolding rows ending row refusing nops room found said host B.is-missing F.fence-or F.to-fence F.fence F.limit-at T.end-kind T.end-number T.no-block T.of-block T.translate B.fetch-upper B.fetch B.emit-native B.emit-term-helper B.helped B.step B.instr-walk B.walk B.end-calls B.whole-walk B.compile-native-block Calls.words-in Calls.store-rd Rust.sign-extend Rust.imm-i Rust.imm-s Rust.imm-ci Rust.shamt Rust.imm-addi4spn Rust.imm-addi16sp Rust.imm-cj Rust.imm-cb I16.addi4spn I16.quadrant-0 I16.c-addi I16.c-addiw I16.c-li I16.c-addi16sp I16.c-lui I16.c-srli I16.c-srai I16.c-andi I16.c-alu I16.c-group I16.c-j I16.c-branch-on I16.c-branch I16.c-addi16sp-lui I16.quadrant-1 I16.c-slli I16.c-jr I16.c-mv I16.c-ebreak I16.c-jalr I16.c-add I16.c-jump-move-add I16.quadrant-2 I16.emit-native-instr16 I32.op-imm-arm I32.op-imm I32.op-arm I32.op I32.misc-mem I32.emit-native-instr TH.store-op TH.store-helper TH.opcode-helper TH.emit-native-term-helper32 TH.supports TH.emit-native-term-helper16 Writers.movk Writers.mov-imm64 Le.number Le.load Le.bytes Le.all-bytes W.asr flatten
 all-rows = refl

@@ -15,6 +15,7 @@ use Rattle.a64_emitter.specs.Emitter.{bytes}
 use Rattle.a64_emitter.specs.Parts.{block-words, written, Written}
 use Rattle.a64_emitter.proofs.Emission.{length-bytes}
 use Rattle.emit_native.specs.declared.Host.{Host}
+use Rattle.emit_native.specs.Calls.{product}
 use Rattle.emit_native.proofs.Size.{by}
 use types.Run.{OneOf, miss}
 use denote.Enum.Declared.{tagOf}
@@ -41,7 +42,7 @@ module _ (h : Host) (guest : List ℕ) (pc limit : ℕ) where
     -- no block
     stopped : (n : ℕ) (out : List ℕ) → refuses h guest pc limit ≡ true → no-block guest pc limit ≡ n → Refused n out
     unfolding translate of-block
-    stopped n out t e = rw (good, no-block-with-fence (max-instrs - 1) h guest pc limit hp, t, e) refl
+    stopped n out t e = rw (good, no-block-with-fence product (max-instrs - 1) h guest pc limit hp, t, e) refl
 
     pub no-limit : (out : List ℕ) → limit ≡ 0 → Refused Refusals.limit-zero out
     unfolding no-block
@@ -80,13 +81,13 @@ module _ (h : Host) (guest : List ℕ) (pc limit : ℕ) where
         module _ {n : ℕ} (e : n ≡ first-refusal h guest pc) (z : n ≡ 0) (r : NativeBlock)
             (v : BlockOf (h .«slot_offset») (fence-walk max-instrs h guest pc limit) (fence max-instrs h guest pc limit) r) (out : List ℕ) {len : ℕ} {out′ : List ℕ}
             (w : Written (block-words (r .em)) out len out′) where
-          code-is : bytes (block-words (r .em)) ≡ block-of h (fence-walk max-instrs h guest pc limit) .code
+          code-is : bytes (block-words (r .em)) ≡ block-of product h (fence-walk max-instrs h guest pc limit) .code
           code-is = ap bytes (v .holds)
 
-          found : compile-native-block max-instrs h guest pc (limit-at (fence max-instrs h guest pc limit) limit) ≡ some (block-of h (fence-walk max-instrs h guest pc limit))
+          found : compile-native-block product max-instrs h guest pc (limit-at (fence max-instrs h guest pc limit) limit) ≡ some (block-of product h (fence-walk max-instrs h guest pc limit))
           found =
               let t : refuses h guest pc limit ≡ false = rw (ne-eqb limit 0 a, ne-eqb (pc % 2) 1 b) (covered-by m u refl refl (sym e ∙ z)) in
-              no-block-with-fence (max-instrs - 1) h guest pc limit hp ∙ rw t refl
+              no-block-with-fence product (max-instrs - 1) h guest pc limit hp ∙ rw t refl
 
           pub too-short : length out < len → refused Refusals.output-short out′ ≡ translate h guest pc limit out
           unfolding translate of-block written

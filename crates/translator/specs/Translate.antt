@@ -8,6 +8,7 @@ use lib.Dec.{eqb, ltb}
 use Rattle.rules.specs.Limits.{max-instrs, max-slot-offset}
 use Rattle.rules.specs.Refusals as Refusals
 use Rattle.emit_native.specs.declared.Host.{Host}
+use Rattle.emit_native.specs.Calls.{product}
 use Rattle.translator.specs.declared.Answer.{Answer}
 use Rattle.jit_arm64.specs.declared.block.Stop.{Stop}
 use Rattle.jit_arm64.specs.declared.block.Stop.the-variants.{Limit, Ended, Helper, Uncovered, NotFetched}
@@ -70,4 +71,4 @@ unfoldable pub translate : Host → List ℕ → ℕ → ℕ → List ℕ → Re
 translate h guest pc limit output =
     let f = fence max-instrs h guest pc limit in
     cond (bad-slot-offset (h .«slot_offset»)) (refused Refusals.slot-offset output)
-    (of-block (compile-native-block max-instrs h guest pc (limit-at f limit)) (no-block guest pc limit) f output)
+    (of-block (compile-native-block product max-instrs h guest pc (limit-at f limit)) (no-block guest pc limit) f output)

@@ -21,7 +21,7 @@ returns c =
 
 returns-2 : tie.Need-returns-2
 returns-2 c =
-    let d = c .before .before .before .before .before .before .before .before in
+    let d = c .before .before .before .before .before .before .before .before .before in
     let s = d .before .before .before .before .args in
     let u1 = d .before .before .before .upper-count .ensures .1 (s .rd) 1 in
     let u2 = d .before .before .upper-count2 .ensures .1 (s .rd) 2 in
@@ -38,6 +38,7 @@ returns-2 c =
             c .before .before .upper-at2 .ensures .holds,
             c .before .before .before .before .upper-at .ensures .holds,
             c .before .before .before .before .before .before .emit-at .ensures .holds,
+            c .before .before .before .before .before .before .before .movz .ensures,
           )
           (constant-one h (s .rd) (s .val) f);
       room = λ h. c .upper-at3 .ensures .room (c .before .before .upper-at2 .ensures .room (c .before .before .before .before .upper-at .ensures .room (c .before .before .before .before .before .before .emit-at .ensures .room h)));
@@ -59,9 +60,7 @@ mov-imm64-at-spec =
     (λ c. search needs)
     (λ c. search needs)
     returns
-    (λ c. search needs)
-    (λ c. search needs)
-    (λ c. search needs)
+    (λ c κs. search needs)
     (λ c κs. search needs)
     (λ c κs. search needs)
     (λ c κs. search needs)
