@@ -69,7 +69,7 @@ class Case:
         slots, stack = rng.pick(((16 + gap, 0), (0, 256 + gap)))
         first = (rng.pick(BASES) + 4096 + stack & -16) - stack
         self.base, self.slots = first - around, slots + around
-        registers = [0] + [rng.value() for _ in range(31)]
+        registers = [rng.value() for _ in range(32)]  # register 0's slot holds anything
         data = bytearray(rng.below(256) for _ in range(around + 272 + gap + around))
         data[self.slots:self.slots + 256] = struct.pack("<32Q", *registers)
         self.memory = bytes(data)

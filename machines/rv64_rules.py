@@ -157,6 +157,26 @@ rule([C_J_0], 0x1000, 0x1000, 1)
 rule([0xC001], 0x1000, 0x1000, 1, x={8: 0})  # C.BEQZ X8, 0
 rule([JALR_X1_X5], 0x1000, 0x1002, 1, x={5: 0x1003}, after={1: 0x1004})
 
+# Register 0's entry is read as 0, whatever it is, and comes back as 0 (document 02, No. 6); where refused it stays.
+for entry in (1, 0xDEAD_BEEF, 2**63, 2**64 - 1):
+    rule([C_NOP], 0x1000, 0x1002, 1, x={0: entry}, after={0: 0})
+    rule([0x557D], 0x1000, 0x1002, 1, x={0: entry}, after={0: 0, 10: 2**64 - 1})  # C.LI X10, -1
+    rule([0x0010_0293], 0x1000, 0x1004, 1, x={0: entry, 5: 7}, after={0: 0, 5: 1})  # ADDI X5, X0, 1
+    rule([0x0060_02B3], 0x1000, 0x1004, 1, x={0: entry, 6: 9}, after={0: 0, 5: 9})  # ADD X5, X0, X6
+    rule([0x4003_02B3], 0x1000, 0x1004, 1, x={0: entry, 6: 9}, after={0: 0, 5: 9})  # SUB X5, X6, X0
+    rule([0x0000_02B3], 0x1000, 0x1004, 1, x={0: entry}, after={0: 0, 5: 0})  # ADD X5, X0, X0
+    rule([0x0010_0013], 0x1000, 0x1004, 1, x={0: entry}, after={0: 0})  # ADDI X0, X0, 1
+    rule([0x0040_0067], 0x1000, 4, 1, x={0: entry}, after={0: 0})  # JALR X0, 4(X0)
+    rule([BEQ_8], 0x1000, 0x1008, 1, x={0: entry}, after={0: 0})
+    rule([BNE_8], 0x1000, 0x1004, 1, x={0: entry}, after={0: 0})
+    rule([C_BEQZ_X8_4], 0x1000, 0x1004, 1, x={0: entry, 8: 0}, after={0: 0})
+    rule([FENCE_I], 0x1000, 0x1004, 1, x={0: entry}, after={0: 0})
+    rule([C_NOP, LW_X0_X0], 0x1000, 0x1002, 1, x={0: entry}, after={0: 0})
+    rule([C_NOP, EBREAK], 0x1000, 0x1002, 1, x={0: entry}, after={0: 0})
+    rule([LW_X0_X0], 0x1000, 0, 0, x={0: entry}, refusal=5)
+    rule([], 0x1000, 0, 0, rest=b"\x13\x00", x={0: entry}, refusal=4)
+    rule([C_NOP], 0x1001, 0, 0, x={0: entry}, refusal=3)
+
 # JALR with any funct3 is JALR (source readings).
 for funct3 in range(1, 8):
     more = funct3 * 0x1000

@@ -61,13 +61,17 @@ fn run(
     let steps = words.len() as u64 / 4;
     let run = a64_run(words, random.next(), &mut after, steps, &mut memory, base).unwrap();
     let ran = rv64_run(guest, &mut registers).unwrap();
-    expected[slots..slots + SLOTS].copy_from_slice(&registers.to_bytes());
+    expected[slots + 8..slots + SLOTS].copy_from_slice(&registers.to_bytes()[8..]);
     let phrases = [
         ("returned in as many steps as words", run == A64Run { end: End::Returned, steps }),
         ("as many instructions as the count", ran.count == count),
         ("X0 is the next PC", after.x[0] == ran.next_pc),
         ("X1 is the count", after.x[1] == u64::from(count)),
-        ("the slots are the registers, other memory as at entry", memory == expected),
+        (
+            "slots 1 to 31 are the registers, slot 0 and other memory as at entry",
+            memory == expected,
+        ),
+        ("register 0 comes back as 0", registers.x[0] == 0),
         ("SP", after.sp == before.sp),
         ("X2 to X8", after.x[2..9] == before.x[2..9]),
         ("X18 to X30", after.x[18..] == before.x[18..]),

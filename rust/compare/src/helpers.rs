@@ -74,6 +74,11 @@ impl Block<'_> {
         self.layout.slots..self.layout.slots + 256
     }
 
+    /// Slots 1 to 31.
+    fn registers(&self) -> Range<usize> {
+        self.layout.slots + 8..self.layout.slots + 256
+    }
+
     /// Where X30 is kept: the lower half of the 16 bytes.
     fn cell(&self) -> Range<usize> {
         self.layout.stack..self.layout.stack + 8
@@ -115,20 +120,23 @@ impl Block<'_> {
         (helper, arguments): (u64, &[u64]),
     ) -> Phrases<'static> {
         let (entry, state, memory) = (&before.state, &after.state, &after.memory);
-        let (slots, stack) = (self.slots(), self.layout.stack..self.layout.stack + 16);
+        let (slots, stack) = (self.registers(), self.layout.stack..self.layout.stack + 16);
         let next = self.address.wrapping_add(4 * self.steps());
         let mut other = before.memory.clone();
         other[slots.clone()].copy_from_slice(&memory[slots.clone()]);
         other[stack.clone()].copy_from_slice(&memory[stack]);
         vec![
-            ("the slots are the registers", memory[slots] == Registers { x: *x }.to_bytes()),
+            (
+                "slots 1 to 31 are the registers",
+                memory[slots] == Registers { x: *x }.to_bytes()[8..],
+            ),
             ("arguments", state.x[..arguments.len()] == *arguments),
             ("X16 is the helper's address", state.x[16] == helper),
             ("SP is 16 lower", state.sp == entry.sp.wrapping_sub(16)),
             ("X30 is saved", memory[self.cell()] == entry.x[30].to_le_bytes()),
             ("X30 is the next word's address", state.x[30] == next),
             ("X18 to X29 at the call", state.x[18..30] == entry.x[18..30]),
-            ("other memory", *memory == other),
+            ("slot 0 and other memory", *memory == other),
         ]
     }
 
@@ -200,7 +208,7 @@ impl Helpers {
         }
     }
 
-    /// The machine at a block's entry, with these registers in the slots.
+    /// The machine at a block's entry, with these registers in the slots; slot 0 is register 0's entry, anything.
     fn entry(&self, random: &mut Random, block: &Block, offset: u64, x: &[u64; 32]) -> Machine {
         let Layout { base, size, slots, .. } = block.layout;
         let mut memory = self.pool.cut(random, size);
@@ -232,6 +240,8 @@ impl Helpers {
         let (answer, called) = block.run(random, (0, steps), &entry)?;
         let pc = guest.pc.wrapping_add(at as u64);
         let done = does_prefix(guest, block.prefix, pc, &mut x);
+        // A refusal leaves register 0's entry.
+        x[0] = 0;
         let instr = instruction(&guest.bytes[at..]).expect("the helper's is whole");
         let (helper, arguments) = call(host, instr, pc, &entry.state.x, &x);
         let mut phrases = block.at_the_call((&entry, &called), &x, (helper, &arguments));

@@ -30,9 +30,9 @@ pub fn value(random: &mut Random) -> u64 {
     }
 }
 
-/// The 32 registers of RV64, register 0 zero.
+/// The 32 registers of RV64, or what their slots hold; register 0's entry is anything.
 pub fn registers(mut value: impl FnMut() -> u64) -> [u64; 32] {
-    std::array::from_fn(|n| if n == 0 { 0 } else { value() })
+    std::array::from_fn(|_| value())
 }
 
 /// Bytes that memories are cut from.

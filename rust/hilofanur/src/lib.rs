@@ -44,18 +44,18 @@
 //!
 //! How a block is called, on an Arm processor or by [`a64_run`]: from word 0, with X30 the address to return to and X0 such
 //! that register n has its slot, eight little-endian bytes, at X0 plus the slot offset plus 8n, a multiple of 8. The slots
-//! are in memory and apart from the block's words; slot 0 holds 0.
+//! are in memory and apart from the block's words. Slot 0 may hold anything: it is neither read nor written.
 //!
-//! A block that no helper ends returns by RET with X0 the next guest PC and X1 the guest instructions done; the slots hold
-//! the registers. X9 to X17 and NZCV are lost; X2 to X8, X18 to X30, SP and all other memory are as they were.
+//! A block that no helper ends returns by RET with X0 the next guest PC and X1 the guest instructions done; slots 1 to
+//! 31 hold the registers. X9 to X17 and NZCV are lost; X2 to X8, X18 to X30, SP and all other memory are as they were.
 //!
 //! A block that a helper ends calls it by BLR X16. At its entry SP is a multiple of 16, and the 16 bytes below SP, modulo
-//! 2^64, are in memory and apart from the slots and the block's words. The helper finds the slots with the registers before
-//! its instruction. The memory helper gets in X0 to X2 what the caller had in X1 to X3, in X3 the operation (0 to 6: LB, LH,
+//! 2^64, are in memory and apart from the slots and the block's words. The helper finds slots 1 to 31 with the registers
+//! before its instruction. The memory helper gets in X0 to X2 what the caller had in X1 to X3, in X3 the operation (0 to 6: LB, LH,
 //! LW, LD, LBU, LHU, LWU; 16 to 19: SB, SH, SW, SD), in X4 rd, in X5 the value to store or 0, in X6 the address, in X7 the
 //! instruction's PC; the others get in X0 to X4 what the caller had in X1 to X5, in X5 the instruction, in X6 its PC. SP is
 //! 16 lower than at entry, the eight bytes at SP hold the X30 of entry, X30 is the address of the word behind the call; X18
-//! to X29 and all memory outside the slots and those 16 bytes are as at entry.
+//! to X29, slot 0 and all memory outside the slots and those 16 bytes are as at entry.
 //!
 //! A helper leaves SP, the eight bytes at SP and the block's words as it found them; all else it may change. It returns to
 //! the X30 that it found, with X0 the next guest PC and X1 the instructions that it did. The block then returns with that
@@ -207,10 +207,11 @@ pub fn place(store: &mut [u8], used: usize, code: &[u8]) -> Result<Placed, Refus
 }
 
 /// RV64 run: does the guest's block on `registers`, as the ISA says. It stops where translation would, behind
-/// FENCE.I too, which is counted, and before a helper instruction.
+/// FENCE.I too, which is counted, and before a helper instruction. Register 0's entry is read as 0, whatever it is, and comes
+/// back as 0.
 ///
 /// # Errors
-/// Refusals 2 to 5 and 9.
+/// Refusals 2 to 5.
 pub fn rv64_run(guest: &Guest, registers: &mut Registers) -> Result<Rv64Run, Refusal> {
     let mut bytes = registers.to_bytes();
     let answer = boundary::rv64_run(guest, &mut bytes);

@@ -32,8 +32,6 @@ pub enum Refusal {
     UsedExceedsStore = 7,
     /// Place: the start plus the code length exceeds the store.
     CodeExceedsStore = 8,
-    /// RV64 run: register 0 is not zero.
-    RegisterZero = 9,
     /// A64 run, from any word: the block length is not a multiple of 4.
     BlockLength = 10,
     /// A64 run, from any word: the memory base plus the memory length exceeds 2^64.
@@ -62,7 +60,6 @@ numbered!(
     OutputShort,
     UsedExceedsStore,
     CodeExceedsStore,
-    RegisterZero,
     BlockLength,
     MemoryExceedsTop,
     ListingLength,
@@ -86,7 +83,6 @@ impl Refusal {
             OutputShort => "the output is shorter than the block's bytes",
             UsedExceedsStore => "used exceeds the store",
             CodeExceedsStore => "the start plus the code length exceeds the store",
-            RegisterZero => "register 0 not zero",
             BlockLength => "block length not a multiple of 4",
             MemoryExceedsTop => "memory base plus memory length exceeds 2^64",
             ListingLength => "block length not a multiple of 4 or above 2^32",

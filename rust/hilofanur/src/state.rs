@@ -2,7 +2,8 @@
 
 use crate::numbered::numbered;
 
-/// The 32 registers of an RV64 hart. Register 0 has to be zero.
+/// The 32 registers of an RV64 hart, or what their slots hold. Register 0's entry may be anything: it is read as 0, and an RV64
+/// run that is accepted gives 0 back for it.
 ///
 /// ```
 /// use hilofanur::Registers;

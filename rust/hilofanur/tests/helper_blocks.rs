@@ -1,6 +1,6 @@
 //! The Rust's blocks that a helper ends, as qemu-aarch64 ran them to the call, and from what a helper left to the return
-//! (`machines/helpers.py`). Translate answers these words, both A64 runs do what the machine did, and at the call the slots are
-//! the registers of the RV64 run. `machines/README.md` has the record's format.
+//! (`machines/helpers.py`). Translate answers these words, both A64 runs do what the machine did, and at the call slots 1 to
+//! 31 are the registers of the RV64 run; slot 0 holds anything, and stays. `machines/README.md` has the record's format.
 
 use draw::class::instruction;
 use draw::forms::HELPER_KINDS;
@@ -102,7 +102,8 @@ impl Case {
 
     /// The kind of the helper's instruction, before which the RV64 run stands with the slots of the call.
     fn kind(&self, guest: &Guest) -> usize {
-        let mut registers = self.slots(&self.entry);
+        let (entry, called) = (self.slots(&self.entry).x, self.slots(&self.called).x);
+        let mut registers = Registers { x: entry };
         let at = match rv64_run(guest, &mut registers) {
             Ok(run) => {
                 assert_eq!(run.count + 1, self.count);
@@ -113,7 +114,7 @@ impl Case {
                 0
             }
         };
-        assert_eq!(registers, self.slots(&self.called));
+        assert_eq!((called[0], &called[1..]), (entry[0], &registers.x[1..]));
         let instr = instruction(&guest.bytes[at..]).unwrap();
         HELPER_KINDS.iter().position(|&(_, (value, fixed))| instr & fixed == value).unwrap()
     }
@@ -144,12 +145,14 @@ fn as_the_machine_ran_them() {
     let mut r = Reader(HELPERS);
     let number = r.header(b"A64CALLS");
     assert!(number >= 600);
-    let (mut met, mut behind_others) = ([0; HELPER_KINDS.len()], 0);
+    let (mut met, mut behind_others, mut rubbish) = ([0; HELPER_KINDS.len()], 0, 0);
     for _ in 0..number {
         let case = Case::read(&mut r);
         met[case.hold()] += 1;
         behind_others += (case.count > 1) as u32;
+        rubbish += (case.slots(&case.entry).x[0] != 0) as u32;
     }
     assert!(r.0.is_empty());
     assert!(met.iter().all(|&cases| cases >= 5) && behind_others >= 200, "{met:?}");
+    assert!(rubbish >= 500, "{rubbish}");
 }

@@ -127,8 +127,6 @@ fn rv64_run_by_number() {
             refuse_rv64(5, guest(bytes, 0, 64), x0);
         }
     }
-    refuse_rv64(9, guest(NOP, 0, 1), 1);
-    refuse_rv64(9, guest(&[0x7D, 0x55], 0, 64), 1 << 63);
 }
 
 /// Words to begin at in a block of at most two: inside, at their number, beyond it, and such that four times the number is a
@@ -341,7 +339,8 @@ fn index_lookup_by_number() {
 
 #[test]
 fn numbers_and_words() {
-    for (refusal, number) in Refusal::ALL.into_iter().zip(1..) {
+    // 9 is no number.
+    for (refusal, number) in Refusal::ALL.into_iter().zip((1..).filter(|&number| number != 9)) {
         assert_eq!((refusal.number(), Refusal::from_number(number)), (number, Some(refusal)));
         let text = refusal.to_string();
         assert_eq!(text, format!("refused {number}: {}", refusal.meaning()));
@@ -353,8 +352,8 @@ fn numbers_and_words() {
     for (kind, number) in EndKind::ALL.into_iter().zip(1..) {
         assert_eq!((kind.number(), EndKind::from_number(number)), (number, Some(kind)));
     }
-    assert_eq!((Refusal::ALL.len(), End::ALL.len(), EndKind::ALL.len()), (16, 6, 3));
-    assert_eq!((Refusal::from_number(0), Refusal::from_number(17)), (None, None));
+    assert_eq!((Refusal::ALL.len(), End::ALL.len(), EndKind::ALL.len()), (15, 6, 3));
+    assert_eq!([0, 9, 17].map(Refusal::from_number), [None; 3]);
     assert_eq!((End::from_number(0), End::from_number(7)), (None, None));
     assert_eq!((EndKind::from_number(0), EndKind::from_number(4)), (None, None));
     let refused = list_into(&[0; 4], &mut []).unwrap_err();

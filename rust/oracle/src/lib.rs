@@ -22,9 +22,17 @@ pub fn ask_rust(case: &Case, limit: u32, output: &mut [u8]) -> Answer {
     translate(guest, *pc, limit, *ignore_ebreak, *slot_offset, *helpers, output)
 }
 
-/// What Translate must answer to a question; `output` takes the block. Where FENCE.I is among the instructions that the
-/// Rust counts, it is the Rust's block at the limit that the first one meets, and its end kind is drop (document 02, No. 3).
+/// What Translate must answer to a question; `output` takes the block: the Rust's up to FENCE.I, each load from slot 0
+/// read as MOVZ with 0 (document 02, No. 6).
 pub fn expected(case: &Case, output: &mut [u8]) -> Answer {
+    let answer = up_to_fence_i(case, output);
+    without_slot_0(case.slot_offset, &mut output[..answer.length as usize]);
+    answer
+}
+
+/// Where FENCE.I is among the instructions that the Rust counts, the Rust's block at the limit that the first one meets, and
+/// its end kind is drop (document 02, No. 3).
+fn up_to_fence_i(case: &Case, output: &mut [u8]) -> Answer {
     let whole = ask_rust(case, case.limit, &mut [0; LONGEST]);
     let Some(number) = first_fence_i(&case.guest, whole.count) else {
         return ask_rust(case, case.limit, output);
@@ -32,6 +40,17 @@ pub fn expected(case: &Case, output: &mut [u8]) -> Answer {
     match ask_rust(case, number, output) {
         answer if answer.refusal == 0 => Answer { end: DROP, ..answer },
         refused => refused,
+    }
+}
+
+/// LDR with base X0 and the slot offset becomes MOVZ with 0, into the same register.
+fn without_slot_0(slot_offset: u64, block: &mut [u8]) {
+    let load = 0xF940_0000 | (slot_offset as u32 / 8) << 10;
+    for bytes in block.as_chunks_mut().0 {
+        let word = u32::from_le_bytes(*bytes);
+        if word & !31 == load {
+            *bytes = (0xD280_0000 | word & 31).to_le_bytes();
+        }
     }
 }
 

@@ -36,15 +36,17 @@ pub fn rv64_run(
     if pc & 1 != 0 {
         return refused(3);
     }
-    if regs[0] != 0 {
-        // Refusals 4 and 5 come first.
-        let mut scratch = *regs;
-        scratch[0] = 0;
-        let first = rv64_run(guest, pc, 1, ignore_ebreak, &mut scratch);
-        return refused(if first.refusal == 0 { 9 } else { first.refusal });
+    // Register 0 is read as 0, whatever its entry is (document 02, No. 6); a refusal leaves that.
+    let entry = std::mem::take(&mut regs[0]);
+    let answer = run(guest, pc, limit.min(64), ignore_ebreak, regs);
+    if answer.refusal != 0 {
+        regs[0] = entry;
     }
+    answer
+}
 
-    let limit = limit.min(64);
+/// At most `limit` instructions.
+fn run(guest: &[u8], pc: u64, limit: u32, ignore_ebreak: bool, regs: &mut [u64; 32]) -> Rv64Answer {
     let (mut rest, mut pc, mut count) = (guest, pc, 0);
     while count < limit {
         let Some((low, after)) = rest.split_first_chunk() else {
@@ -323,7 +325,7 @@ mod tests {
     use super::*;
     use draw::class::{class16, Class};
 
-    fn run(guest: &[u8], pc: u64, limit: u32, ignore_ebreak: bool) -> Rv64Answer {
+    fn from_zeros(guest: &[u8], pc: u64, limit: u32, ignore_ebreak: bool) -> Rv64Answer {
         rv64_run(guest, pc, limit, ignore_ebreak, &mut [0; 32])
     }
 
@@ -352,30 +354,41 @@ mod tests {
             );
             assert_eq!(regs, before);
         }
-        let mut regs = [7; 32];
-        assert_eq!(rv64_run(&[0x7D, 0x55], 0, 1, false, &mut regs), refused(9));
-        assert_eq!(regs, [7; 32]);
+    }
+
+    /// c.li x10, -1, which adds to register 0; add x5, x0, x6; c.nop.
+    #[test]
+    fn register_0_whatever_its_entry() {
+        for (guest, changed) in
+            [(&[0x7D, 0x55][..], (10, u64::MAX)), (&[0xB3, 2, 0x60, 0], (5, 7)), (&[1, 0], (0, 0))]
+        {
+            let (mut regs, mut expected) = ([7; 32], [7; 32]);
+            expected[0] = 0;
+            expected[changed.0] = changed.1;
+            assert_eq!(rv64_run(guest, 0, 1, false, &mut regs).refusal, 0);
+            assert_eq!(regs, expected, "{guest:02x?}");
+        }
     }
 
     #[test]
     fn ends_of_a_block() {
         let answer = |count, next_pc| Rv64Answer { refusal: 0, count, next_pc };
         // The limit is clamped to 64; the PC passes from the top to 0.
-        assert_eq!(run(&[1, 0].repeat(65), 0x1000, 65, false), answer(64, 0x1080));
-        assert_eq!(run(&[1, 0].repeat(65), 0x1000, u32::MAX, false), answer(64, 0x1080));
-        assert_eq!(run(&[1, 0, 1, 0], u64::MAX - 1, 2, false), answer(2, 2));
+        assert_eq!(from_zeros(&[1, 0].repeat(65), 0x1000, 65, false), answer(64, 0x1080));
+        assert_eq!(from_zeros(&[1, 0].repeat(65), 0x1000, u32::MAX, false), answer(64, 0x1080));
+        assert_eq!(from_zeros(&[1, 0, 1, 0], u64::MAX - 1, 2, false), answer(2, 2));
         // A lone byte, a helper instruction, an uncovered one.
-        assert_eq!(run(&[1, 0, 1], 0x1000, 9, false), answer(1, 0x1002));
-        assert_eq!(run(&[1, 0, 0x10, 0x41], 0x1000, 9, false), answer(1, 0x1002));
-        assert_eq!(run(&[1, 0, 0x41, 0x9C], 0x1000, 9, false), answer(1, 0x1002));
+        assert_eq!(from_zeros(&[1, 0, 1], 0x1000, 9, false), answer(1, 0x1002));
+        assert_eq!(from_zeros(&[1, 0, 0x10, 0x41], 0x1000, 9, false), answer(1, 0x1002));
+        assert_eq!(from_zeros(&[1, 0, 0x41, 0x9C], 0x1000, 9, false), answer(1, 0x1002));
         // C.EBREAK under the flag.
-        assert_eq!(run(&[2, 0x90], 0x1000, 9, true), answer(1, 0x1002));
-        assert_eq!(run(&[2, 0x90], 0x1000, 9, false), refused(5));
+        assert_eq!(from_zeros(&[2, 0x90], 0x1000, 9, true), answer(1, 0x1002));
+        assert_eq!(from_zeros(&[2, 0x90], 0x1000, 9, false), refused(5));
         // Jumps: JALR with funct3 7, C.J 0 onto itself.
-        assert_eq!(run(&[0x67, 0x70, 0x50, 0x12], 0x1000, 9, false), answer(1, 0x124));
-        assert_eq!(run(&[0x01, 0xA0], 0x1000, 9, false), answer(1, 0x1000));
+        assert_eq!(from_zeros(&[0x67, 0x70, 0x50, 0x12], 0x1000, 9, false), answer(1, 0x124));
+        assert_eq!(from_zeros(&[0x01, 0xA0], 0x1000, 9, false), answer(1, 0x1000));
         // FENCE with every field other than funct3 set.
-        assert_eq!(run(&[0x8F, 0x8F, 0xFF, 0xFF], 0x1000, 9, false), answer(1, 0x1004));
+        assert_eq!(from_zeros(&[0x8F, 0x8F, 0xFF, 0xFF], 0x1000, 9, false), answer(1, 0x1004));
     }
 
     /// It is counted, and what stands behind it is not done.
@@ -401,7 +414,7 @@ mod tests {
         }
         // FENCE is no end.
         let answer = Rv64Answer { refusal: 0, count: 2, next_pc: 0x1008 };
-        assert_eq!(run(&[0x0F, 0, 0, 0, 0x0F, 0x10, 0, 0, 1, 0], 0x1000, 9, false), answer);
+        assert_eq!(from_zeros(&[0x0F, 0, 0, 0, 0x0F, 0x10, 0, 0, 1, 0], 0x1000, 9, false), answer);
     }
 
     #[test]
@@ -411,7 +424,7 @@ mod tests {
                 continue;
             }
             let covered = matches!(class16(instr, true), Class::Next | Class::Ends);
-            let answer = run(&instr.to_le_bytes(), 0x1000, 1, true);
+            let answer = from_zeros(&instr.to_le_bytes(), 0x1000, 1, true);
             assert_eq!(answer.refusal, if covered { 0 } else { 5 }, "{instr:04x}");
         }
     }

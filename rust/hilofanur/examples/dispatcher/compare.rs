@@ -103,7 +103,7 @@ impl<'a> Run<'a> {
         ])
     }
 
-    /// Memory outside the slots and, before a call, the block's part of the stack.
+    /// Memory outside slots 1 to 31 and, before a call, the block's part of the stack.
     fn other_memory(&self) -> bool {
         let (before, after) = (&self.before.memory, &self.after.memory);
         (0..SIZE)
@@ -191,6 +191,16 @@ mod tests {
         assert_eq!(found(&[(6, 0xD65F_03C0)]), "end, count");
         // BLR X16 in place of RET
         assert_eq!(found(&[(7, 0xD63F_0200)]), "count, SP, saved X30, helper's arguments");
+    }
+
+    /// addi t0, zero, 1: MOVZ X9 with 0 for register 0, whose slot holds anything; the constant, the sum, its store.
+    #[test]
+    fn register_0() {
+        let found = |changes: &[(usize, u32)]| differences(&[0x93, 0x02, 0x10, 0x00], changes);
+        assert_eq!(found(&[]), "");
+        // LDR X9, STR X9: slot 0 is read, or written
+        assert_eq!(found(&[(0, 0xF940_2009)]), "registers");
+        assert_eq!(found(&[(4, 0xF900_2009)]), "other memory, next PC");
     }
 
     /// C.NOP and c.lw a0, 4(a1): five moves, instruction, PC, three words of the helper's address, the call.

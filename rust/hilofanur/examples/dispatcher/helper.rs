@@ -1,7 +1,7 @@
 //! A helper as a block calls it: it does the load or store that its arguments tell, and changes all else that it may.
 
 use super::code::HOST;
-use super::host::{Machine, BASE, SLOTS};
+use super::host::{Machine, BASE};
 use super::memory::{Access, Memory};
 use draw::Random;
 
@@ -33,7 +33,7 @@ pub fn help(
             *eight = random.next().to_le_bytes();
         }
     }
-    machine.memory[SLOTS].copy_from_slice(&registers.to_bytes());
+    machine.set_slots(&registers);
     machine.state.x = std::array::from_fn(|_| random.next());
     machine.state.nzcv = random.next();
     machine.state.x[0] = pc.wrapping_add(access.length);
@@ -43,7 +43,7 @@ pub fn help(
 
 #[cfg(test)]
 mod tests {
-    use super::super::host::{SIZE, SP};
+    use super::super::host::{SIZE, SLOTS, SP};
     use super::*;
     use hilofanur::A64State;
 
@@ -54,7 +54,7 @@ mod tests {
         let state = A64State { x, sp: SP - 16, nzcv: 0x77 };
         let mut machine = Machine { state, memory: [0x77; SIZE] };
         for (n, slot) in machine.memory[SLOTS].as_chunks_mut().0.iter_mut().enumerate() {
-            *slot = (8 * n as u64).to_le_bytes();
+            *slot = (8 * (n as u64 + 1)).to_le_bytes();
         }
         machine
     }

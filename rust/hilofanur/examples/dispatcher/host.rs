@@ -14,7 +14,8 @@ pub const SIZE: usize = 1024;
 const HART: u64 = BASE + 128;
 pub const SP: u64 = BASE + 896;
 const FIRST_SLOT: usize = (HART + HOST.slot_offset - BASE) as usize;
-pub const SLOTS: Range<usize> = FIRST_SLOT..FIRST_SLOT + 256;
+/// Slots 1 to 31. Slot 0 holds anything, as after a snapshot load.
+pub const SLOTS: Range<usize> = FIRST_SLOT + 8..FIRST_SLOT + 256;
 
 /// The host's registers and memory.
 #[derive(Clone, Copy)]
@@ -56,9 +57,15 @@ impl Running<'_> {
 }
 
 impl Machine {
-    /// The guest's registers.
+    /// The guest's registers; register 0 is 0, whatever its slot holds.
     pub fn slots(&self) -> Registers {
-        Registers::from_bytes(self.memory[SLOTS].first_chunk().unwrap())
+        let mut bytes = [0; 256];
+        bytes[8..].copy_from_slice(&self.memory[SLOTS]);
+        Registers::from_bytes(&bytes)
+    }
+
+    pub fn set_slots(&mut self, registers: &Registers) {
+        self.memory[SLOTS].copy_from_slice(&registers.to_bytes()[8..]);
     }
 
     /// Does the block's words from the one numbered `first` on.
@@ -84,9 +91,9 @@ impl HostSide {
         let mut x = std::array::from_fn(|_| random.next());
         x[0] = HART;
         let state = A64State { x, sp: SP, nzcv: random.below(16) as u64 };
-        let mut memory = self.memory;
-        memory[SLOTS].copy_from_slice(&registers.to_bytes());
-        Machine { state, memory }
+        let mut machine = Machine { state, memory: self.memory };
+        machine.set_slots(registers);
+        machine
     }
 
     /// Runs the block's words with the registers in the slots, and the guest's instructions beside it. Where it calls a helper, that
