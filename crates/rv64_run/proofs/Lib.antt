@@ -1,4 +1,5 @@
 pub mod Fetching
 pub mod Running
+pub mod Entries
 pub mod Refusing
 pub mod Examples

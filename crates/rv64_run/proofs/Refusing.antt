@@ -1,6 +1,6 @@
 -- A run's refusals 4 and 5, from its count and why it stopped.
 use mathlib.Core.Bool.{Bool, cond}
-use mathlib.Core.Path.{_≡_, refl, _∙_}
+use mathlib.Core.Path.{_≡_, refl, sym, ap, _∙_}
 use mathlib.Core.List.{List}
 use Prim.Native.Nat.{ℕ, zero, suc, _+_, _-_, _%_, _≤_}
 use native.Mathlib.Omega.{arith}
@@ -17,6 +17,7 @@ use Rattle.rv64_run.specs.declared.run.Refusal.{Refusal}
 use Rattle.rv64.specs.Execute.{exec, covered}
 use Rattle.rv64_run.specs.Run.{fetch, run, step, onward, start, clamped, number, refusal-first, refusal-of, answer-of, answer}
 use Rattle.rv64_run.specs.Parts.{at-first, refused}
+use Rattle.rv64_run.proofs.Entries.{in-run, run-same}
 
 -- the count never falls
 
@@ -78,18 +79,19 @@ module _ (g : List ℕ) (h : Hart) (limit : ℕ) (e : Bool) (q : limit ≡ 0 →
   unfolding run
   by-run k = by-first begun _ (λ size h'. counted e k 1 (drop size g) h') (fetch e g)
 
-  -- the answer by the run r and its outcome
-  by-outcome : {r : Ran} → r ≡ run e (clamped limit) 0 g begun → (q' : Refusal) → first (r .count) (r .stop) ≡ q' → answer-of q' (h .x) r ≡ answer g h limit e
+  -- the answer by the run r, which register 0's entry passes through, and its outcome
+  by-outcome : {r : Ran} → r ≡ run e (clamped limit) 0 g h → (q' : Refusal) → first (r .count) (r .stop) ≡ q' → answer-of q' (h .x) (in-run r) ≡ answer g h limit e
   unfolding answer refusal-of
   by-outcome {r} s q' f =
       let k : clamped limit ≡ suc (clamped limit - 1) = omega arith in
-      let z : refusal-first (fetch e g) ≡ q' = by-run (clamped limit - 1) ∙ (rw (← k, ← s) f) in
-      rw (ne-eqb limit 0 q, eq-eqb (h .pc % 2) 0 p, z, ← s)
+      let b : in-run r ≡ run e (clamped limit) 0 g begun = ap (λ (r : Ran). in-run r) s ∙ sym (run-same e (clamped limit) 0 g (h .x) (h .pc)) in
+      let z : refusal-first (fetch e g) ≡ q' = by-run (clamped limit - 1) ∙ (rw (← k, ← b) f) in
+      rw (ne-eqb limit 0 q, eq-eqb (h .pc % 2) 0 p, z, ← b)
 
-  pub answer-at-first : {r : Ran} → r ≡ run e (clamped limit) 0 g begun → r .count ≡ 0 → refused (at-first (r .stop)) (h .x) ≡ answer g h limit e
+  pub answer-at-first : {r : Ran} → r ≡ run e (clamped limit) 0 g h → r .count ≡ 0 → refused (at-first (r .stop)) (h .x) ≡ answer g h limit e
   unfolding first
-  answer-at-first {r} s c = refused-at-first (r .stop) (h .x) r ∙ by-outcome s (at-first (r .stop)) (rw (eq-eqb (r .count) 0 c))
+  answer-at-first {r} s c = refused-at-first (r .stop) (h .x) (in-run r) ∙ by-outcome s (at-first (r .stop)) (rw (eq-eqb (r .count) 0 c))
 
-  pub accepted : {r : Ran} → r ≡ run e (clamped limit) 0 g begun → (r .count ≡ 0 → ⊥) → record { refusal = Refusal.Accepted; hart = r .hart; count = r .count } ≡ answer g h limit e
+  pub accepted : {r : Ran} → r ≡ run e (clamped limit) 0 g h → (r .count ≡ 0 → ⊥) → record { refusal = Refusal.Accepted; hart = start (r .hart .x) (r .hart .pc); count = r .count } ≡ answer g h limit e
   unfolding first answer-of number
   accepted {r} s c = by-outcome s Refusal.Accepted (rw (ne-eqb (r .count) 0 c))

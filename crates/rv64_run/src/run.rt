@@ -194,7 +194,7 @@ fn at_first(stop: Stop) -> Refusal
     }
 }
 
-// The operation RV64 run. Register 0's entry is read as 0, whatever it is (document 02, No. 6).
+// The operation RV64 run. No instruction reads register 0's entry or writes it: it is given back as 0 (document 02, No. 6).
 pub fn rv64_run(guest: &[u8], hart: Hart, limit: u32, ignore_ebreak: bool) -> Answer
     ensures { λ r. ⌜ r ≡ Rv64.answer (now (guest .entry)) hart limit «ignore_ebreak» ⌝ }
 {
@@ -205,15 +205,14 @@ pub fn rv64_run(guest: &[u8], hart: Hart, limit: u32, ignore_ebreak: bool) -> An
     if hart.pc % 2 != 0 {
         return refused(Refusal::OddPc, x);
     }
-    let mut h = hart;
-    h.x[0] = 0;
-    let r = run(guest, clamped(limit), ignore_ebreak, h);
+    let r = run(guest, clamped(limit), ignore_ebreak, hart);
     let count = r.count;
     if count == 0 {
         let stop = r.stop;
         return refused(at_first(stop), x);
     }
-    let h = r.hart;
+    let mut h = r.hart;
+    h.x[0] = 0;
     Answer {
         refusal: Refusal::Accepted,
         hart: h,

@@ -16,8 +16,14 @@ const REFUSALS: [u32; 5] = [0, 2, 3, 4, 5];
 
 impl Compared for Rv64 {
     const NAME: &'static str = "rv64_run";
-    const OUTCOMES: &'static [&'static str] =
-        &["accepted", "refused 2", "refused 3", "refused 4", "refused 5", "register 0 not zero"];
+    const OUTCOMES: &'static [&'static str] = &[
+        "accepted",
+        "refused 2",
+        "refused 3",
+        "refused 4",
+        "refused 5",
+        "accepted, register 0 not 0",
+    ];
 
     fn compare(&mut self, random: &mut Random) -> Result<usize, String> {
         let case = self.guests.case(random);
