@@ -13,7 +13,7 @@ use Rattle.rv64.specs.Execute.{Step, read, write, exec}
 use Rattle.rv64_run.specs.declared.run.Hart.{Hart}
 use Rattle.rv64_run.specs.declared.run.Fetched.{Fetched}
 use Rattle.rv64_run.specs.declared.run.Ran.{Ran}
-use Rattle.rv64_run.specs.Run.{fetch, start, stopped, onward, step, run}
+use Rattle.rv64_run.specs.Run.{fetch, start, onward, step, run}
 
 -- a step's and a run's registers with 0 for register 0
 abbrev in-step : Step → Step

@@ -17,5 +17,5 @@ pub mod Entering
 pub mod Whole
 pub mod Called
 pub mod Examples
-pub mod Translated
 pub mod Loads
+pub mod Translated

@@ -23,10 +23,10 @@ use Rattle.a64.proofs.Coding.{decode-encode}
 use Rattle.a64_emitter.specs.Writers.{add-x, ldr-x, ret, part, movz, movk}
 use Rattle.a64_emitter.specs.Writers as Writers
 use Rattle.emit_native.specs.Calls.{Call, emit, mov-imm64, load, store, reg-off, rust, product, call-words, words-in, if-not-0}
-use Rattle.translation.proofs.Calls.{Model, model, Kept, calls-run, scratch, form-fits, fits, keeps, all-fit, In, AllIn, and-l, and-r, scratch-lt}
+use Rattle.translation.proofs.Calls.{Model, model, Kept, scratch, form-fits, fits, keeps, all-fit, In, AllIn, and-l, and-r, scratch-lt}
 use Rattle.translation.proofs.Moves.{Move, from, constant, move-call, Moves}
-use Rattle.translation.proofs.Arguments.{calling, Arranged}
-use Rattle.translation.proofs.Blocks.{walk-calls, Follow, Helps}
+use Rattle.translation.proofs.Arguments.{calling}
+use Rattle.translation.proofs.Blocks.{walk-calls, Follow}
 use Rattle.translation.proofs.Entering.{block-walks}
 use Rattle.translation.proofs.Whole.{block-is}
 use Rattle.translation.proofs.Called.{helps, arranged}
@@ -46,16 +46,16 @@ module _ (o : ℕ) (ho : o ≤ max-slot-offset) where
   below : (w : ℕ) → w < 0xF9400000 → Other w
   below w h e = omega arith
 
-  -- what is asked of a call
-  abbrev pub Said : Call → Type 0
-  Said (emit w) = Other w
-  Said (mov-imm64 d c) = d < 32
-  Said (load d n) = (d < 32) × (n < 32)
-  Said (store d n) = (d < 32) × (n < 32)
+  -- a call that makes such an LDR, if at all, as the load of register 0
+  abbrev pub Plain : Call → Type 0
+  Plain (emit w) = Other w
+  Plain (mov-imm64 d c) = d < 32
+  Plain (load d n) = (d < 32) × (n < 32)
+  Plain (store d n) = (d < 32) × (n < 32)
 
-  abbrev pub AllSaid : List Call → Type 0
-  AllSaid [] = Unit {0}
-  AllSaid (c ∷ cs) = Said c × AllSaid cs
+  abbrev pub AllPlain : List Call → Type 0
+  AllPlain [] = Unit {0}
+  AllPlain (c ∷ cs) = Plain c × AllPlain cs
 
   movk-same : (d hw p : ℕ) → d < 32 → hw < 4 → p < 65536 → map (without-slot-0 o) (movk d hw p) ≡ movk d hw p
   unfolding movk
@@ -78,69 +78,57 @@ module _ (o : ℕ) (ho : o ≤ max-slot-offset) where
       rw (eq-eqb (ldr-x d 0 (reg-off o n) / 32) (ldr-x 0 0 o / 32) e, r)
   load-same d n hd hn false q = sym (other-is _ (λ e. omega (arith, eqb-false n 0 q)))
 
-  call-same : (c : Call) → Said c → call-words product o c ≡ map (without-slot-0 o) (call-words rust o c)
+  call-same : (c : Call) → Plain c → call-words product o c ≡ map (without-slot-0 o) (call-words rust o c)
   call-same (emit w) s = ap (λ (w : ℕ). w ∷ []) (sym (other-is w s))
   call-same (mov-imm64 d c) s = sym (constant-same d c s)
   call-same (load d n) s = ap (λ (w : ℕ). w ∷ []) (load-same d n (s .0) (s .1) (eqb n 0) refl)
   call-same (store d n) s = ap (λ (w : ℕ). w ∷ []) (sym (other-is _ (below _ (omega arith))))
 
-  pub calls-same : (cs : List Call) → AllSaid cs → words-in product o cs ≡ map (without-slot-0 o) (words-in rust o cs)
+  pub calls-same : (cs : List Call) → AllPlain cs → words-in product o cs ≡ map (without-slot-0 o) (words-in rust o cs)
   unfolding words-in flatten
   calls-same [] s = refl
   calls-same (c ∷ cs) s = rw (call-same c (s .0), calls-same cs (s .1), map-append)
 
-  pub said-append : (cs ds : List Call) → AllSaid cs → AllSaid ds → AllSaid (cs ++ ds)
-  said-append [] ds s t = t
-  said-append (c ∷ cs) ds s t = (s .0, said-append cs ds (s .1) t)
+  pub plain-append : (cs ds : List Call) → AllPlain cs → AllPlain ds → AllPlain (cs ++ ds)
+  plain-append [] ds s t = t
+  plain-append (c ∷ cs) ds s t = (s .0, plain-append cs ds (s .1) t)
 
   -- calls that write scratch registers and slots
   ldr-unfit : (d : ℕ) → d < 32 → T (form-fits (decode (ldr-x d 0 o))) → ⊥
   unfolding form-fits
   ldr-unfit d hd t = rw (decode-encode (Ldr d 0 (o / 8)) (hd, omega arith, omega arith)) at t
 
-  fits-said : (b : Bool) (c : Call) → T (fits b c) → In c → Said c
+  fits-plain : (b : Bool) (c : Call) → T (fits b c) → In c → Plain c
   unfolding fits
-  fits-said b (emit w) t h = λ e. let i : w ≡ ldr-x (w % 32) 0 o = omega arith in ldr-unfit (w % 32) (omega arith) (rw i at t)
-  fits-said b (mov-imm64 d c) t h = omega (arith, scratch-lt d t)
-  fits-said b (load d n) t h = omega (arith, scratch-lt d (and-l (scratch d) b t))
-  fits-said b (store d n) t h = omega (arith, ltb→lt d 32 (and-l (ltb d 32) b t))
+  fits-plain b (emit w) t h = λ e. let i : w ≡ ldr-x (w % 32) 0 o = omega arith in ldr-unfit (w % 32) (omega arith) (rw i at t)
+  fits-plain b (mov-imm64 d c) t h = omega (arith, scratch-lt d t)
+  fits-plain b (load d n) t h = omega (arith, scratch-lt d (and-l (scratch d) b t))
+  fits-plain b (store d n) t h = omega (arith, ltb→lt d 32 (and-l (ltb d 32) b t))
 
-  pub all-fit-said : (b : Bool) (cs : List Call) → T (all-fit b cs) → AllIn cs → AllSaid cs
+  pub all-fit-plain : (b : Bool) (cs : List Call) → T (all-fit b cs) → AllIn cs → AllPlain cs
   unfolding all-fit
-  all-fit-said b [] t h = tt
-  all-fit-said b (c ∷ cs) t h = (fits-said b c (and-l (fits b c) _ t) (h .0), all-fit-said (keeps b c) cs (and-r (fits b c) _ t) (h .1))
+  all-fit-plain b [] t h = tt
+  all-fit-plain b (c ∷ cs) t h = (fits-plain b c (and-l (fits b c) _ t) (h .0), all-fit-plain (keeps b c) cs (and-r (fits b c) _ t) (h .1))
 
   -- ---- a helper's call
 
-  moves-said : (ms : List Move) → Moves ms → AllSaid (map move-call ms)
-  moves-said [] h = tt
-  moves-said (from d n ∷ ms) h = (below _ (omega arith), moves-said ms (h .2))
-  moves-said (constant d c ∷ ms) h = (omega arith, moves-said ms (h .2))
+  moves-plain : (ms : List Move) → Moves ms → AllPlain (map move-call ms)
+  moves-plain [] h = tt
+  moves-plain (from d n ∷ ms) h = (below _ (omega arith), moves-plain ms (h .2))
+  moves-plain (constant d c ∷ ms) h = (omega arith, moves-plain ms (h .2))
 
-  prefix-said : (n : ℕ) → AllSaid (if-not-0 n (mov-imm64 12 n ∷ emit (add-x 1 1 12) ∷ []))
-  prefix-said n = by (eqb n 0)
+  prefix-plain : (n : ℕ) → AllPlain (if-not-0 n (mov-imm64 12 n ∷ emit (add-x 1 1 12) ∷ []))
+  prefix-plain n = by (eqb n 0)
     where
-      by : (b : Bool) → AllSaid (cond b [] (mov-imm64 12 n ∷ emit (add-x 1 1 12) ∷ []))
+      by : (b : Bool) → AllPlain (cond b [] (mov-imm64 12 n ∷ emit (add-x 1 1 12) ∷ []))
       by true = tt
       by false = (omega arith, ((λ e. omega arith), tt))
 
-  calling-said : (n : ℕ) → AllSaid (calling n)
-  calling-said n = (
-    (λ e. omega arith),
-    (
-      (λ e. omega arith),
-      (
-        (λ e. omega arith),
-        (
-          (λ e. omega arith),
-          (
-            (λ e. omega arith),
-            said-append (if-not-0 n (mov-imm64 12 n ∷ emit (add-x 1 1 12) ∷ [])) (emit ret ∷ []) (prefix-said n) ((λ e. omega arith), tt),
-          ),
-        ),
-      ),
-    ),
-  )
+  calling-plain : (n : ℕ) → AllPlain (calling n)
+  calling-plain n =
+      let prefix = if-not-0 n (mov-imm64 12 n ∷ emit (add-x 1 1 12) ∷ []) in
+      let behind = plain-append prefix (emit ret ∷ []) (prefix-plain n) ((λ e. omega arith), tt) in
+      ((λ e. omega arith), ((λ e. omega arith), ((λ e. omega arith), ((λ e. omega arith), ((λ e. omega arith), behind)))))
 
 -- ---- the block, from a model with zeros
 
@@ -169,25 +157,25 @@ module _ (h : Host) (hm : h .«memory_helper» < 2 ^ 64) (h32 : h .helper32 < 2 
   abbrev g : Ran
   g = Rv64.run (h .«ignore_ebreak») (Rv64.clamped limit) 0 guest (Rv64.hart (zeros .slots) pc)
 
-  helper-said : W .stop ≡ Stop.Helper → AllSaid o ho (block-calls W)
+  helper-plain : W .stop ≡ Stop.Helper → AllPlain o ho (block-calls W)
   unfolding end-calls
-  helper-said stop =
+  helper-plain stop =
       let y = helps h hm h32 h16 pc limit guest hb hl hp he ho h8 stop blank zeros kept-zeros in
       let a = arranged h hm h32 h16 pc limit guest hb hl hp he ho h8 stop blank zeros kept-zeros in
       let e : block-calls W ≡ y .front ++ (a .early ++ (map move-call (a .moves) ++ calling (g .count))) =
       rw stop (append-nil (W .calls)) ∙ y .calls ∙ ap (λ (l : List Call). y .front ++ l) (a .is)
       in
       rw e
-      (said-append o ho (y .front) _ (all-fit-said o ho true (y .front) (y .fit) (y .range))
-      (said-append o ho (a .early) _ (all-fit-said o ho true (a .early) (a .fine .fit) (a .fine .range))
-      (said-append o ho (map move-call (a .moves)) _ (moves-said o ho (a .moves) (a .range)) (calling-said o ho (g .count)))))
+      (plain-append o ho (y .front) _ (all-fit-plain o ho true (y .front) (y .fit) (y .range))
+      (plain-append o ho (a .early) _ (all-fit-plain o ho true (a .early) (a .fine .fit) (a .fine .range))
+      (plain-append o ho (map move-call (a .moves)) _ (moves-plain o ho (a .moves) (a .range)) (calling-plain o ho (g .count)))))
 
-  block-said : Follow (reg blank) pc h guest W zeros g → AllSaid o ho (block-calls W)
-  block-said (inl y) =
+  block-plain : Follow (reg blank) pc h guest W zeros g → AllPlain o ho (block-calls W)
+  block-plain (inl y) =
       rw (block-is W (y .free))
-      (said-append o ho (walk-calls W) _ (all-fit-said o ho true (walk-calls W) (y .fit) (y .range)) (omega arith, ((λ e. omega arith), tt)))
-  block-said (inr y) = helper-said (y .stop)
+      (plain-append o ho (walk-calls W) _ (all-fit-plain o ho true (walk-calls W) (y .fit) (y .range)) (omega arith, ((λ e. omega arith), tt)))
+  block-plain (inr y) = helper-plain (y .stop)
 
   -- the product's words and the Rust's, each LDR from slot 0 of which is read as MOVZ with 0
   pub as-rust : words-in product o (block-calls W) ≡ map (without-slot-0 o) (words-in rust o (block-calls W))
-  as-rust = calls-same o ho (block-calls W) (block-said (block-walks h pc limit guest hb hp he (reg blank) zeros kept-zeros))
+  as-rust = calls-same o ho (block-calls W) (block-plain (block-walks h pc limit guest hb hp he (reg blank) zeros kept-zeros))

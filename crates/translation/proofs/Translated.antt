@@ -1,9 +1,9 @@
--- Demand 3, and document 02, No. 5, for what translation answers. Assumes nothing.
+-- Demand 3, document 02, No. 5, and the Rust's words, for what translation answers. Assumes nothing.
 use mathlib.Core.Path.{_≡_, refl, sym, ap, _∙_}
 use mathlib.Core.Logic.{inl, inr}
 use mathlib.Core.Option.{Option, none, some}
 use mathlib.Core.Bool.{Bool, true, false, not, _||_, true≢false}
-use mathlib.Core.List.{List, [], _∷_, _++_}
+use mathlib.Core.List.{List, [], _∷_, _++_, map}
 use Prim.Native.Nat.{ℕ, _-_, _%_, _^_, _≤_, _<_}
 use native.Mathlib.Omega.{arith}
 use lib.Dec.{eqb, ltb}
@@ -12,9 +12,10 @@ use borrow.Author.Tests.{eqb-true, eqb-false, ltb-false}
 use Rattle.rules.specs.Limits.{max-instrs, max-slot-offset}
 use Rattle.le.specs.Le.{Bytes}
 use Rattle.emit_native.specs.declared.Host.{Host}
-use Rattle.emit_native.specs.Calls.{product}
+use Rattle.a64_emitter.specs.Emitter.{bytes}
+use Rattle.emit_native.specs.Calls.{rust, product, words-in}
 use Rattle.jit_arm64.specs.declared.block.Stop.{Stop}
-use Rattle.jit_arm64.specs.Block.{Walk, block-of}
+use Rattle.jit_arm64.specs.Block.{Walk, block-calls, block-of}
 use Rattle.jit_arm64.specs.Fence.{fence}
 use Rattle.jit_arm64.specs.Parts.{fence-walk}
 use Rattle.translator.specs.Translate.{Result, end-kind, end-number, accepted, bad-slot-offset, of-block, translate}
@@ -25,6 +26,7 @@ use Rattle.translation.specs.HelperBlock.{HelperEnded, HelperBlock}
 use Rattle.translation.proofs.Fences.{whole-ends}
 use Rattle.translation.proofs.Whole.{demand3}
 use Rattle.translation.proofs.Called.{helper-block}
+use Rattle.translation.proofs.Loads.{without-slot-0, as-rust}
 
 offset-by : (o : ℕ) (a b : Bool) → eqb (o % 8) 0 ≡ a → ltb max-slot-offset o ≡ b → (not a || b) ≡ false → (o % 8 ≡ 0) × (o ≤ max-slot-offset)
 offset-by o true false p q h = (eqb-true (o % 8) 0 p, ltb-false max-slot-offset o q)
@@ -121,3 +123,10 @@ module _ (h : Host) (pc limit : ℕ) (guest out : List ℕ) (hb : Bytes guest) (
       let z : r .answer .end ≡ 0 → ⊥ = λ q. helper-end (r .answer .end) k q in
       let g : W .stop ≡ Stop.Helper = helper-only f (W .stop) (rw (r-is r e z) at k) in
       rw (code r e z, r-is r e z) (helper-block h hm h32 h16 pc limit guest hb hl hp (even r e z) (offset r e z .1) (offset r e z .0) g)
+
+  -- the block's bytes are the Rust's at the limit that FENCE.I leaves, each LDR from slot 0 read as MOVZ with 0 (document 02, No. 6)
+  pub translated-words : h .«memory_helper» < 2 ^ 64 → h .helper32 < 2 ^ 64 → h .helper16 < 2 ^ 64 → length guest < 2 ^ 64
+      → (r : Result) → r ≡ translate h guest pc limit out → (r .answer .end ≡ 0 → ⊥)
+      → take (r .answer .length) (r .output) ≡ bytes (map (without-slot-0 (h .«slot_offset»)) (words-in rust (h .«slot_offset») (block-calls W)))
+  translated-words hm h32 h16 hl r e z =
+      code r e z ∙ ap bytes (as-rust h hm h32 h16 pc limit guest hb hl hp (even r e z) (offset r e z .1) (offset r e z .0))
