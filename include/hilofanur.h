@@ -20,6 +20,8 @@
  *   15  the code's length is zero, not a multiple of 4 or beyond the store
  *   16  no block under this key
  *
+ * 9 is not used.
+ *
  * Bytes are lent by a pointer and their number, which is below 2^63. A pointer is never null, even where the number is
  * 0; it needs no alignment. Bytes that a call may write overlap no others that it is lent. No pointer is kept after the
  * call, no state is kept between calls, and every call ends. Translate takes 12 KB of stack, the others 1 KB.

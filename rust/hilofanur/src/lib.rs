@@ -51,11 +51,12 @@
 //!
 //! A block that a helper ends calls it by BLR X16. At its entry SP is a multiple of 16, and the 16 bytes below SP, modulo
 //! 2^64, are in memory and apart from the slots and the block's words. The helper finds slots 1 to 31 with the registers
-//! before its instruction. The memory helper gets in X0 to X2 what the caller had in X1 to X3, in X3 the operation (0 to 6: LB, LH,
-//! LW, LD, LBU, LHU, LWU; 16 to 19: SB, SH, SW, SD), in X4 rd, in X5 the value to store or 0, in X6 the address, in X7 the
-//! instruction's PC; the others get in X0 to X4 what the caller had in X1 to X5, in X5 the instruction, in X6 its PC. SP is
-//! 16 lower than at entry, the eight bytes at SP hold the X30 of entry, X30 is the address of the word behind the call; X18
-//! to X29, slot 0 and all memory outside the slots and those 16 bytes are as at entry.
+//! before its instruction. The memory helper gets in X0 to X2 what the caller had in X1 to X3, in X3 the operation (0 to
+//! 6: LB, LH, LW, LD, LBU, LHU, LWU; 16 to 19: SB, SH, SW, SD), in X4 rd, in X5 the value to store or 0, in X6 the
+//! address, in X7 the instruction's PC; the others get in X0 to X4 what the caller had in X1 to X5, in X5 the
+//! instruction, in X6 its PC. SP is 16 lower than at entry, the eight bytes at SP hold the X30 of entry, X30 is the
+//! address of the word behind the call; X18 to X29, slot 0 and all memory outside the slots and those 16 bytes are as at
+//! entry.
 //!
 //! A helper leaves SP, the eight bytes at SP and the block's words as it found them; all else it may change. It returns to
 //! the X30 that it found, with X0 the next guest PC and X1 the instructions that it did. The block then returns with that

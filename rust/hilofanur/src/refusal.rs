@@ -6,7 +6,7 @@ use std::fmt;
 
 /// Why an operation was refused. A refusal leaves every lent byte as it was.
 ///
-/// Within an operation the lowest number that applies is given.
+/// Within an operation the lowest number that applies is given. 9 is not used.
 ///
 /// ```
 /// use hilofanur::Refusal;
