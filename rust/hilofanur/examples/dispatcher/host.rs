@@ -64,6 +64,7 @@ impl Machine {
         Registers::from_bytes(&bytes)
     }
 
+    /// Puts the guest's registers there; slot 0 keeps what it holds.
     pub fn set_slots(&mut self, registers: &Registers) {
         self.memory[SLOTS].copy_from_slice(&registers.to_bytes()[8..]);
     }
