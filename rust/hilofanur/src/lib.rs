@@ -102,11 +102,15 @@
 
 pub mod boundary;
 mod index;
+#[cfg(all(target_arch = "aarch64", target_os = "linux"))]
+mod jump;
 mod numbered;
 mod refusal;
 mod state;
 
 pub use index::{Found, Index, Key};
+#[cfg(all(target_arch = "aarch64", target_os = "linux"))]
+pub use jump::{ExecutableStore, Helper, MemoryHelper, Next, OpenStore};
 pub use refusal::{ListRefused, Refusal};
 pub use state::{A64State, End, EndKind, Registers};
 
