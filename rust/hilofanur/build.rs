@@ -1,4 +1,5 @@
-//! Links the proved library: the one that HILOFANUR_LIB names, else the one for the target that `tools/staticlib` makes.
+//! Links the proved library: the one that HILOFANUR_LIB names, else the one for the target that `tools/staticlib`
+//! makes.
 
 use std::path::{Path, PathBuf};
 use std::process::{exit, Command};

@@ -24,7 +24,7 @@ to-fence guest start zero before i = none
 to-fence guest start (suc left) before i =
     fence-or (fetch (add start i) guest i) before (λ (size : ℕ). to-fence guest start left (suc before) (i + size))
 
--- among those of the Rust's block
+-- from pc on, among as many instructions as the Rust's walk counts with this limit: what follows its end is not asked
 unfoldable pub fence : ℕ → Host → List ℕ → ℕ → ℕ → Option ℕ
 fence most h guest pc limit = to-fence guest pc (whole-walk most h guest pc limit .count) 0 0
 

@@ -1,4 +1,5 @@
-//! Shows blocks: each guest instruction over the words that were made of it, a block that a helper ends, and a refusal.
+//! Shows blocks: each guest instruction over the words that were made of it, a block that a helper ends, and a
+//! refusal.
 
 use hilofanur::{list, translate, EndKind, Guest, Host, Refusal, LONGEST_BLOCK};
 

@@ -6,7 +6,8 @@ use std::fmt;
 /// What a block is found by.
 #[derive(Clone, Copy, Debug, PartialEq, Eq, Hash)]
 pub struct Key {
-    /// The address space number.
+    /// The address space number: any that tells apart guests, or address spaces of one, with different code at one
+    /// PC.
     pub space: u64,
     /// The PC of the first instruction.
     pub pc: u64,
@@ -25,11 +26,13 @@ pub struct Found {
 
 /// Up to 512 blocks by key. Their code is in a store that the caller lends.
 ///
-/// An index has one store, of one length, which nothing but [`Index::place`] changes. Then a lookup answers the block placed
-/// last under its key, unless that was dropped or the index emptied since, and the store holds that block's code.
+/// An index has one store, of one length, which nothing but [`Index::place`] changes. Then a lookup answers the block
+/// placed last under its key, unless that was dropped or the index emptied since, and the store holds that block's
+/// code.
 ///
-/// A block that ends as [`crate::EndKind::Drop`] is run from elsewhere and not placed: so it is translated each time the guest
-/// comes to it, and each time the index is emptied. Then no block from before the guest's FENCE.I is found behind it.
+/// A block that ends as [`crate::EndKind::Drop`] is run from elsewhere and not placed: so it is translated each time
+/// the guest comes to it, and each time the index is emptied. Then no block from before the guest's FENCE.I is found
+/// after it.
 ///
 /// ```
 /// use hilofanur::{Found, Index, Key, Refusal};
@@ -73,9 +76,9 @@ impl Index {
 
     /// Places `code` in `store`, under a key; where it starts.
     ///
-    /// It goes behind the block placed last, or to the store's front where the rest is too short or the index is empty. This
-    /// is chosen first. Then are dropped the block under the same key, every block that shares a byte with the new one, and, if
-    /// 512 are still left, the oldest; no other. Other bytes of the store stay.
+    /// It goes after the block placed last, or to the store's front where the rest is too short or the index is
+    /// empty. This is chosen first. Then are dropped the block under the same key, every block that shares a byte
+    /// with the new one, and, if 512 are still left, the oldest; no other. Other bytes of the store stay.
     ///
     /// # Errors
     /// Refusal 15.

@@ -47,8 +47,8 @@ pub struct Next {
     pub count: u64,
 }
 
-/// The helper for loads and stores of 32 bits: three numbers of the caller's, the operation (0 to 6: LB, LH, LW, LD, LBU, LHU,
-/// LWU; 16 to 19: SB, SH, SW, SD), rd, the value to store or 0, the address, the instruction's PC.
+/// The helper for loads and stores of 32 bits: three numbers of the caller's, the operation (0 to 6: LB, LH, LW, LD,
+/// LBU, LHU, LWU; 16 to 19: SB, SH, SW, SD), rd, the value to store or 0, the address, the instruction's PC.
 pub type MemoryHelper = extern "C" fn(u64, u64, u64, u64, u64, u64, u64, u64) -> Next;
 
 /// The helper for other instructions: five numbers of the caller's, the instruction, its PC.
@@ -58,8 +58,8 @@ pub type Helper = extern "C" fn(u64, u64, u64, u64, u64, u64, u64) -> Next;
 type Block = unsafe extern "C" fn(*mut u8, u64, u64, u64, u64, u64) -> Next;
 
 impl Host {
-    /// With functions of this process as helpers: for loads and stores of 32 bits, for other instructions of 32 bits, for
-    /// those of 16 bits.
+    /// With functions of this process as helpers: for loads and stores of 32 bits, for other instructions of 32 bits,
+    /// for those of 16 bits.
     pub fn calling(
         slot_offset: u64,
         memory: MemoryHelper,
@@ -131,13 +131,13 @@ impl ExecutableStore {
     /// Jumps to the block at `start`, with X0 and the numbers that a helper gets; what it returns.
     ///
     /// # Safety
-    /// - The bytes from `start` on are a whole block that [`crate::translate`] wrote. They were placed while the store was
-    ///   open, in the range that [`OpenStore::close`] was given, and not changed since. A thread that did not close the
-    ///   store itself has executed an ISB since.
-    /// - With the block's slot offset, `x0` leads to 32 slots of eight bytes, aligned to 8, which no other thread accesses
-    ///   during the call and no borrow covers.
-    /// - If the block ends by a helper, its address is one of such a function's ([`Host::calling`]), which may be called
-    ///   with `arguments`. No panic passes through the block.
+    /// - The bytes from `start` on are a whole block that [`crate::translate`] wrote. They were placed while the
+    ///   store was open, in the range that [`OpenStore::close`] was given, and not changed since. A thread that did
+    ///   not close the store itself has executed an ISB since.
+    /// - With the block's slot offset, `x0` leads to 32 slots of eight bytes, aligned to 8, which no other thread
+    ///   accesses during the call and no borrow covers.
+    /// - If the block ends by a helper, its address is one of such a function's ([`Host::calling`]), which may be
+    ///   called with `arguments`. No panic passes through the block.
     ///
     /// # Panics
     /// Where `start` is no multiple of 4 or not in the store.
@@ -178,8 +178,8 @@ impl Drop for ExecutableStore {
     }
 }
 
-/// A store that is writable, and not executable. Where it is dropped and not closed, it becomes executable too, but the words
-/// that were written must not be run.
+/// A store that is writable, and not executable. Where it is dropped and not closed, it becomes executable too, but
+/// the words that were written must not be run.
 #[derive(Debug)]
 pub struct OpenStore<'a> {
     store: &'a mut ExecutableStore,
@@ -224,8 +224,9 @@ impl Drop for OpenStore<'_> {
     }
 }
 
-/// Cleans the data cache and invalidates the instruction cache over these addresses (the Arm manual, 'Synchronization and
-/// coherency issues between data and instruction accesses'). CTR_EL0 has the line sizes, as powers of two of words.
+/// Cleans the data cache and invalidates the instruction cache over these addresses (the Arm manual, 'Synchronization
+/// and coherency issues between data and instruction accesses'). CTR_EL0 has the line sizes, as powers of two of
+/// words.
 fn clear_cache(start: usize, end: usize) {
     let ctr: usize;
     // SAFETY: reads a register that Linux lets programs read.

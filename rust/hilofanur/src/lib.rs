@@ -1,4 +1,4 @@
-//! RV64 guest blocks in, A64 words out: the proved library behind a safe interface.
+//! RV64 guest blocks in, A64 words out: the proved library, with a safe interface.
 //!
 //! Translate, place and the two runs are document 01's; the listing, the index and the way to go on after a call are
 //! document 02's. Each operation is accepted, or refused by number with every lent byte unchanged.
@@ -42,26 +42,19 @@
 //! # Ok::<(), Refusal>(())
 //! ```
 //!
-//! How a block is called, on an Arm processor or by [`a64_run`]: from word 0, with X30 the address to return to and X0 such
-//! that register n has its slot, eight little-endian bytes, at X0 plus the slot offset plus 8n, a multiple of 8. The slots
-//! are in memory and apart from the block's words. Slot 0 may hold anything: it is neither read nor written.
+//! How a block is called, on an Arm processor or by [`a64_run`]: from word 0, with X30 the address to return to and
+//! X0 such that register n has its slot, eight little-endian bytes, at X0 plus the slot offset plus 8n, a multiple of
+//! 8. The slots are in memory and apart from the block's words. Slot 0 may hold anything: it is neither read nor
+//! written. docs/USING.md of the repository has the whole convention, register by register, and what to see to before
+//! a jump.
 //!
-//! A block that no helper ends returns by RET with X0 the next guest PC and X1 the guest instructions done; slots 1 to
-//! 31 hold the registers. X9 to X17 and NZCV are lost; X2 to X8, X18 to X30, SP and all other memory are as they were.
+//! A block that no helper ends returns with X0 the next guest PC and X1 the guest instructions done; slots 1 to 31
+//! hold the registers. X9 to X17 and NZCV are lost; X2 to X8, X18 to X30, SP and all other memory are as they were.
 //!
-//! A block that a helper ends calls it by BLR X16. At its entry SP is a multiple of 16, and the 16 bytes below SP, modulo
-//! 2^64, are in memory and apart from the slots and the block's words. The helper finds slots 1 to 31 with the registers
-//! before its instruction. The memory helper gets in X0 to X2 what the caller had in X1 to X3, in X3 the operation (0 to
-//! 6: LB, LH, LW, LD, LBU, LHU, LWU; 16 to 19: SB, SH, SW, SD), in X4 rd, in X5 the value to store or 0, in X6 the
-//! address, in X7 the instruction's PC; the others get in X0 to X4 what the caller had in X1 to X5, in X5 the
-//! instruction, in X6 its PC. SP is 16 lower than at entry, the eight bytes at SP hold the X30 of entry, X30 is the
-//! address of the word behind the call; X18 to X29, slot 0 and all memory outside the slots and those 16 bytes are as at
-//! entry.
-//!
-//! A helper leaves SP, the eight bytes at SP and the block's words as it found them; all else it may change. It returns to
-//! the X30 that it found, with X0 the next guest PC and X1 the instructions that it did. The block then returns with that
-//! X0, with that X1 plus the block's count less one, modulo 2^64, SP and X30 as at entry, memory and X18 to X29 as the
-//! helper left them; X2 to X17 and NZCV are lost. [`a64_run`] ends such a block as [`End::Called`]; the caller does the
+//! A block that a helper ends calls it, with slots 1 to 31 the registers before its instruction. The helper returns
+//! with X0 the next guest PC and X1 the instructions that it did; the block then returns with that X0, and with that
+//! X1 plus its count less one. On AArch64 Linux `Host::calling` takes helpers, `ExecutableStore` has words that the
+//! processor runs, and its `call` jumps. [`a64_run`] ends such a block as [`End::Called`]; the caller does the
 //! helper's work, and [`a64_run_from`] goes on:
 //!
 //! ```
@@ -95,7 +88,8 @@
 //! # Ok::<(), Refusal>(())
 //! ```
 //!
-//! [`translate`] takes 12 KB of stack, the others 1 KB.
+//! [`translate`] takes 12 KB of stack, the others 1 KB. The library has no state: calls may run in any threads at
+//! once.
 
 #![deny(unsafe_code)]
 #![warn(missing_docs)]
@@ -126,7 +120,8 @@ pub const INDEX_BYTES: usize = 45_056;
 /// The guest's code and how far a block may go.
 #[derive(Clone, Copy, Debug)]
 pub struct Guest<'a> {
-    /// Little-endian halfwords, the first at `pc`; a lone last byte is no halfword.
+    /// Little-endian halfwords, the first at `pc`; a lone last byte is no halfword. Four bytes for each instruction
+    /// of the limit are enough, 256 at the most.
     pub bytes: &'a [u8],
     /// The PC of the first instruction.
     pub pc: u64,
@@ -189,8 +184,8 @@ pub struct A64Run {
 
 /// Translate: writes the block at the front of `output`, whose other bytes stay.
 ///
-/// FENCE.I, whatever its fields beside opcode and funct3, ends the block: it is counted, and the next PC is the one behind
-/// it. FENCE goes on.
+/// FENCE.I, whatever its fields beside opcode and funct3, ends the block: it is counted, and the next PC is the one
+/// after it. FENCE goes on. With [`LONGEST_BLOCK`] bytes of output refusal 6 does not occur.
 ///
 /// # Errors
 /// Refusals 1 to 6.
@@ -211,8 +206,8 @@ pub fn place(store: &mut [u8], used: usize, code: &[u8]) -> Result<Placed, Refus
     Ok(Placed { start: answer.start as usize, used: answer.used as usize })
 }
 
-/// RV64 run: does the guest's block on `registers`, as the ISA says. It stops where translation would, behind
-/// FENCE.I too, which is counted, and before a helper instruction. Register 0's entry is read as 0, whatever it is, and comes
+/// RV64 run: does the guest's block on `registers`, as the ISA says. It stops where translation would, after FENCE.I
+/// too, which is counted, and before a helper instruction. Register 0's entry is read as 0, whatever it is, and comes
 /// back as 0.
 ///
 /// # Errors
@@ -225,7 +220,10 @@ pub fn rv64_run(guest: &Guest, registers: &mut Registers) -> Result<Rv64Run, Ref
     Ok(Rv64Run { count: answer.count, next_pc: answer.next_pc })
 }
 
-/// A64 run: does the words of `block`, which stand at `address`, on `state` and `memory`, whose first byte is at `base`.
+/// A64 run: does the words of `block` on `state` and `memory`, whose first byte is at `base`.
+///
+/// `address` is where the words would stand; only X30 at a call depends on it. For a block of Translate's a budget of
+/// as many steps as it has words is enough, to the call and again from it.
 ///
 /// # Errors
 /// Refusals 10 and 11.
@@ -243,8 +241,8 @@ pub fn a64_run(
 }
 
 /// A64 run from: goes on after a call, from the state that the caller gives, at the word of `block` numbered `first`,
-/// counted from 0. `address` stays that of word 0; the steps count from 0. Where `first` is at or beyond the number of
-/// words it ends as [`End::OffTheEnd`] with no step, whatever the budget.
+/// counted from 0. `address` stays that of word 0; the steps count from 0. Where `first` is at or beyond the number
+/// of words it ends as [`End::OffTheEnd`] with no step, whatever the budget.
 ///
 /// # Errors
 /// Refusals 10 and 11, whatever `first`.
@@ -276,8 +274,8 @@ fn a64_ran(
 
 /// List: a line for each word of `block`, its byte offset, the word, and the Arm manual's unaliased assembler form.
 ///
-/// It allocates the text, [`LONGEST_LINE`] bytes a word; for a block longer than [`LONGEST_BLOCK`] only where it is not refused.
-/// [`list_into`] allocates nothing, and tells where a word outside the forms stands.
+/// It allocates the text, [`LONGEST_LINE`] bytes a word; for a block longer than [`LONGEST_BLOCK`] only where it is
+/// not refused. [`list_into`] allocates nothing, and tells where a word outside the forms stands.
 ///
 /// # Errors
 /// Refusals 12 and 13.

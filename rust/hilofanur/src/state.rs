@@ -2,8 +2,8 @@
 
 use crate::numbered::numbered;
 
-/// The 32 registers of an RV64 hart, or what their slots hold. Register 0's entry may be anything: it is read as 0, and an RV64
-/// run that is accepted gives 0 back for it.
+/// The 32 registers of an RV64 hart, or what their slots hold. Register 0's entry may be anything: it is read as 0,
+/// and an RV64 run that is accepted gives 0 back for it.
 ///
 /// ```
 /// use hilofanur::Registers;
@@ -90,8 +90,8 @@ pub enum EndKind {
     Plain = 1,
     /// A helper instruction: the block calls the helper for it.
     Helper = 2,
-    /// FENCE.I, as the limit's last instruction too: the guest may have changed its code. A dispatcher keeps the block out of its
-    /// index and empties that.
+    /// FENCE.I, as the limit's last instruction too: the guest may have changed its code. A dispatcher keeps the
+    /// block out of its index and empties that.
     Drop = 3,
 }
 

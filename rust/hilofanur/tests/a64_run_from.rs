@@ -1,5 +1,5 @@
-//! Document 02, No. 5: A64 run goes on after a call, at a word that the caller names; blocks that a helper ends. Words,
-//! arguments and steps worked out by hand.
+//! Document 02, No. 5: A64 run goes on after a call, at a word that the caller names; blocks that a helper ends.
+//! Words, arguments and steps worked out by hand.
 
 use hilofanur::{a64_run, a64_run_from, translate};
 use hilofanur::{A64Run, A64State, End, EndKind, Guest, Host, LONGEST_BLOCK};
@@ -17,8 +17,8 @@ fn state(sp: u64) -> A64State {
     A64State { x: std::array::from_fn(|n| n as u64 + 0x100), sp, nzcv: 9 }
 }
 
-/// MOVZ X0, #0, MOVZ X1, #1, .., MOVZ X7, #7, RET: those from `first` on are done, as many as the budget has, and the steps
-/// count from 0.
+/// MOVZ X0, #0, MOVZ X1, #1, .., MOVZ X7, #7, RET: those from `first` on are done, as many as the budget has, and the
+/// steps count from 0.
 #[test]
 fn begins_at_its_word() {
     let mut words: Vec<u32> = (0..8).map(|n| 0xD280_0000 | n << 5 | n).collect();
@@ -36,7 +36,7 @@ fn begins_at_its_word() {
     }
 }
 
-/// `address` is that of word 0: X30 is the address of the word behind BLR, whichever word was the first.
+/// `address` is that of word 0: X30 is the address of the word after BLR, whichever word was the first.
 #[test]
 fn link_counts_from_word_0() {
     let mut words = [0xD280_0009; 9]; // MOVZ X9, #0
@@ -51,9 +51,9 @@ fn link_counts_from_word_0() {
     }
 }
 
-/// A fault, an unreadable word and the end are met behind the first word as at it.
+/// A fault, an unreadable word and the end are met after the first word as at it.
 #[test]
-fn ends_behind_its_word() {
+fn ends_after_its_word() {
     // MOVZ X1, #0; LDR X2, [X1]; MOVZ X1, #0; no word of the forms; MOVZ X1, #0.
     let block = bytes(&[0xD280_0001, 0xF940_0022, 0xD280_0001, 0, 0xD280_0001]);
     let rows = [(0, End::Fault), (2, End::Unreadable), (4, End::OffTheEnd)];
@@ -65,8 +65,8 @@ fn ends_behind_its_word() {
     }
 }
 
-/// A block that a helper ends: at the call the helper's address and its arguments, from X0 on; the words up to the call and
-/// behind it.
+/// A block that a helper ends: at the call the helper's address and its arguments, from X0 on; the words up to the
+/// call and after it.
 struct Row {
     guest: &'static [u8],
     count: u32,
@@ -131,13 +131,13 @@ impl Row {
         }
     }
 
-    /// With SP behind the slots and 16 bytes, and `behind` bytes of memory behind SP.
-    fn hold(&self, base: u64, behind: usize, address: u64) {
+    /// With SP after the slots and 16 bytes, and `after` bytes of memory after SP.
+    fn hold(&self, base: u64, after: usize, address: u64) {
         let block = (&self.block()[..], address);
         let mut entry = state(base.wrapping_add(STACK as u64 + 16));
         entry.x[0] = base.wrapping_sub(HOST.slot_offset);
         let mut memory: Vec<u8> = (0..32).flat_map(|n| (0x1000_u64 * n).to_le_bytes()).collect();
-        memory.extend(vec![0xA5; 16 + behind]);
+        memory.extend(vec![0xA5; 16 + after]);
         self.call(block, &entry, &mut memory, base);
         self.go_on(block, &entry, &mut memory, base);
     }
@@ -156,7 +156,7 @@ impl Row {
         assert_eq!((&state.x[18..30], memory), (&entry.x[18..30], &mut expected[..]));
     }
 
-    /// Behind it, where the helper has changed all that it may.
+    /// After it, where the helper has changed all that it may.
     fn go_on(
         &self,
         (block, address): (&[u8], u64),

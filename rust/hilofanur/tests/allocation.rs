@@ -1,5 +1,5 @@
-//! What the listing allocates: `list_into` nothing, `list` its text alone, and nothing where it refuses more than the longest block.
-//! What the index allocates: its bytes, and its calls nothing. The A64 runs allocate nothing.
+//! What the listing allocates: `list_into` nothing, `list` its text alone, and nothing where it refuses more than the
+//! longest block. What the index allocates: its bytes, and its calls nothing. The A64 runs allocate nothing.
 
 use hilofanur::{a64_run, a64_run_from, list, list_into, A64Run, A64State, End, Found, Index, Key};
 use hilofanur::{Refusal, INDEX_BYTES, LONGEST_LINE};

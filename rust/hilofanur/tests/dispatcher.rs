@@ -51,17 +51,17 @@ fn as_recorded(arguments: &[&str], recorded: &str) -> Vec<String> {
 /// Bytes of the program's longest block, which is at 10252.
 const LONGEST: usize = 320;
 
-/// In a store that holds all blocks none is dropped. In a small one blocks are dropped and translated again, the smaller
-/// the more often, and what is run stays the same.
+/// In a store that holds all blocks none is dropped. In a small one blocks are dropped and translated again, the
+/// smaller the more often, and what is run stays the same.
 #[test]
 fn stores() {
     let whole = as_recorded(&[], CENTROID);
     let blocks = numbers(&whole, "blocks: ")[0];
     let run = numbers(&whole, "run: ");
-    let [returned, behind, loads, stores, _] = numbers(&whole, "stops: ")[..] else {
+    let [returned, after, loads, stores, _] = numbers(&whole, "stops: ")[..] else {
         panic!("{whole:?}")
     };
-    assert_eq!((returned, behind), (run[0], loads + stores));
+    assert_eq!((returned, after), (run[0], loads + stores));
     assert!(loads >= 1_000 && stores >= 100, "{loads} loads, {stores} stores");
     assert_eq!(numbers(&whole, "index: "), [blocks, run[0] - blocks, 0]);
     for (store, least) in [(8_192, 10), (1_024, 1_000), (LONGEST, 5_000)] {
@@ -94,13 +94,13 @@ fn patched() {
         assert_eq!(fenced, fences);
         assert_eq!(placed + fenced, numbers(&lines, "blocks: ")[0], "{store}");
         assert_eq!(placed + found + fenced, run[0], "{store}");
-        // Each emptying finds a block, and behind the last one some are left.
+        // Each emptying finds a block, and after the last one some are left.
         assert!(emptied >= fences && dropped + emptied < placed, "{store}: {emptied} emptied");
         assert_eq!(dropped == 0, store == 1 << 20, "{store}: {dropped} dropped");
     }
 }
 
-/// Where the index is kept, the old loop is run, and the instruction behind the first FENCE.I; both runs differ.
+/// Where the index is kept, the old loop is run, and the instruction after the first FENCE.I; both runs differ.
 #[test]
 fn kept() {
     let area = |gain: u64| 64_755 * gain;
@@ -120,7 +120,7 @@ fn kept() {
     assert_eq!(numbers(&lines, "fences: "), [5, 0]);
     let differences = starting(&lines, "  DIFFERENCE ");
     assert_eq!(numbers(&lines, "differences: "), [differences.len() as u64]);
-    // Each pass of the old loop, five times behind a patch and four times before the next, and the number four times.
+    // Each pass of the old loop, five times after a patch and four times before the next, and the number four times.
     assert_eq!(differences.len(), 16 * 9 + 4);
     assert_eq!(lines.last().unwrap(), "exit status of the guest: 5");
     assert_eq!(output.status.code(), Some(1));

@@ -91,17 +91,17 @@ impl Row {
     }
 }
 
-/// First, in the middle, with code behind it that would have more words; a second one is not reached.
+/// First, in the middle, with code after it that would have more words; a second one is not reached.
 #[test]
 fn ends_a_block() {
     for limit in [1, 2, 63, 64, 65, u32::MAX] {
-        for behind in [&[][..], LI, LW, LEAVES, FENCE_I, &[0x0F], &[0x73, 0, 0, 0]] {
-            row(&[FENCE_I, behind], limit, (Drop, 1, 0x1004), &[&[0xD282_0080], &ONE]).hold();
+        for after in [&[][..], LI, LW, LEAVES, FENCE_I, &[0x0F], &[0x73, 0, 0, 0]] {
+            row(&[FENCE_I, after], limit, (Drop, 1, 0x1004), &[&[0xD282_0080], &ONE]).hold();
         }
     }
     for limit in [3, 64] {
-        for behind in [&[][..], LI, LW, LEAVES, FENCE_I] {
-            let guest = [LI, FENCE_I, behind];
+        for after in [&[][..], LI, LW, LEAVES, FENCE_I] {
+            let guest = [LI, FENCE_I, after];
             row(&guest, limit, (Drop, 2, 0x1006), &[&LI_WORDS, &[0xD282_00C0], &TWO]).hold();
         }
     }
@@ -142,7 +142,8 @@ fn fields() {
     }
 }
 
-/// What ends a block before FENCE.I: a jump, an uncovered instruction with its words left over, its own missing bytes.
+/// What ends a block before FENCE.I: a jump, an uncovered instruction with its words left over, its own missing
+/// bytes.
 #[test]
 fn not_reached() {
     // c.j 2
@@ -171,10 +172,10 @@ fn at_the_top() {
     Row { pc: u64::MAX - 3, ..top }.hold();
 }
 
-/// Behind a helper instruction it is not reached: the block is that of the bytes before it. FENCE and C.NOP before a helper
-/// instruction are.
+/// After a helper instruction it is not reached: the block is that of the bytes before it. FENCE and C.NOP before a
+/// helper instruction are.
 #[test]
-fn behind_a_helper() {
+fn after_a_helper() {
     // ld x8, 0(x8), and the C.LW
     for helper in [&[0x03, 0x34, 0x04, 0x00], LW] {
         for (before, prefix) in [(&[][..], 0), (NOP, 1), (FENCE, 1)] {

@@ -48,7 +48,7 @@ static void call(void)
     uint8_t block[HILOFANUR_LONGEST_BLOCK], state[HILOFANUR_STATE] = {0}, memory[HILOFANUR_REGISTERS + 16] = {0};
     uint32_t length = hilofanur_translate(
         guest, sizeof guest, 0x1000, 2, false, 0, 0x10000, 0x20000, 0x30000, block, sizeof block).length;
-    /* X30 is 7; SP is 272, behind the slots and 16 bytes. */
+    /* X30 is 7; SP is 272, after the slots and 16 bytes. */
     state[8 * 30] = 7;
     state[8 * 31] = 0x10;
     state[8 * 31 + 1] = 0x01;

@@ -41,8 +41,8 @@ end kind 1, 68 bytes, count 2, ran 1 to 1002
 end kind 1, 12 bytes, count 2, ran 2 to 1006
 ";
 
-/// At the call: steps, X16, the instruction, its PC, X30 and SP; behind it: steps, X0, X1, X30 and SP. Then A64 run from off the
-/// end, and its refusals.
+/// At the call: steps, X16, the instruction, its PC, X30 and SP; after it: steps, X0, X1, X30 and SP. Then A64 run
+/// from off the end, and its refusals.
 const CALLED: &str = "\
 called 1 12 30000 4000 1002 4030 100
 returned 1 5 1004 2 7 110

@@ -1,6 +1,7 @@
-//! The Rust's blocks that a helper ends, as qemu-aarch64 ran them to the call, and from what a helper left to the return
-//! (`machines/helpers.py`). Translate answers these words, both A64 runs do what the machine did, and at the call slots 1 to
-//! 31 are the registers of the RV64 run; slot 0 holds anything, and stays. `machines/README.md` has the record's format.
+//! The Rust's blocks that a helper ends, as qemu-aarch64 ran them to the call, and from what a helper left to the
+//! return (`machines/helpers.py`). Translate answers these words, both A64 runs do what the machine did, and at the
+//! call slots 1 to 31 are the registers of the RV64 run; slot 0 holds anything, and stays. `machines/README.md` has
+//! the record's format.
 
 use draw::class::instruction;
 use draw::forms::HELPER_KINDS;
@@ -29,8 +30,8 @@ impl Machine {
         after
     }
 
-    /// What the helper left that was called so: the complement of what a register starts as, of the flags, and of every byte
-    /// but the eight at SP, unless the record names it.
+    /// What the helper left that was called so: the complement of what a register starts as, of the flags, and of
+    /// every byte but the eight at SP, unless the record names it.
     fn left(&self, base: u64, r: &mut Reader) -> Machine {
         let cell = (self.state.sp - base) as usize;
         let bytes = self.memory.iter().enumerate();
@@ -133,8 +134,8 @@ impl Case {
         assert_eq!(output[..block.length], self.words, "{guest:x?}");
         let called = (Ok(A64Run { end: End::Called, steps }), self.called.clone());
         assert_eq!(self.run(0, &self.entry), called, "{guest:x?}");
-        let behind = self.words.len() as u64 / 4 - steps;
-        let returned = (Ok(A64Run { end: End::Returned, steps: behind }), self.returned.clone());
+        let after = self.words.len() as u64 / 4 - steps;
+        let returned = (Ok(A64Run { end: End::Returned, steps: after }), self.returned.clone());
         assert_eq!(self.run(steps, &self.left), returned, "{guest:x?}");
         self.kind(&guest)
     }
@@ -145,14 +146,14 @@ fn as_the_machine_ran_them() {
     let mut r = Reader(HELPERS);
     let number = r.header(b"A64CALLS");
     assert!(number >= 600);
-    let (mut met, mut behind_others, mut rubbish) = ([0; HELPER_KINDS.len()], 0, 0);
+    let (mut met, mut after_others, mut rubbish) = ([0; HELPER_KINDS.len()], 0, 0);
     for _ in 0..number {
         let case = Case::read(&mut r);
         met[case.hold()] += 1;
-        behind_others += (case.count > 1) as u32;
+        after_others += (case.count > 1) as u32;
         rubbish += (case.slots(&case.entry).x[0] != 0) as u32;
     }
     assert!(r.0.is_empty());
-    assert!(met.iter().all(|&cases| cases >= 5) && behind_others >= 200, "{met:?}");
+    assert!(met.iter().all(|&cases| cases >= 5) && after_others >= 200, "{met:?}");
     assert!(rubbish >= 500, "{rubbish}");
 }

@@ -62,7 +62,7 @@ impl Life {
     }
 }
 
-/// Behind the last block, where it fits exactly too; to the front where the rest is too short, by a word or by more.
+/// After the last block, where it fits exactly too; to the front where the rest is too short, by a word or by more.
 #[test]
 fn where_blocks_go() {
     let mut life = Life::new(64);
@@ -74,7 +74,7 @@ fn where_blocks_go() {
     assert_eq!(life.place(6, 12), 4);
     assert_eq!(life.place(7, 4), 16);
     assert_eq!(life.blocks(), [(3, 24, 20), (4, 44, 20), (5, 0, 4), (6, 4, 12), (7, 16, 4)]);
-    // 44 bytes are left behind block 7.
+    // 44 bytes are left after block 7.
     assert_eq!(life.place(8, 48), 0);
     assert_eq!(life.blocks(), [(8, 0, 48)]);
     assert_eq!(life.place(9, 16), 48);
@@ -127,7 +127,7 @@ fn the_same_key() {
     assert_eq!(life.blocks(), [(1, 16, 8), (2, 8, 8)]);
     assert_eq!(life.place(1, 12), 24);
     assert_eq!(life.blocks(), [(1, 24, 12), (2, 8, 8)]);
-    // Alone in the index, and behind itself all the same.
+    // Alone in the index, and after itself all the same.
     let mut life = Life::new(20);
     assert_eq!([life.place(1, 8), life.place(1, 8), life.place(1, 8)], [0, 8, 0]);
     assert_eq!(life.blocks(), [(1, 0, 8)]);
@@ -147,7 +147,8 @@ fn full() {
     }
 }
 
-/// In a store of 512 blocks the 513th overlaps the oldest; no other is dropped then, and none beside the two of a longer one.
+/// In a store of 512 blocks the 513th overlaps the oldest; no other is dropped then, and none beside the two of a
+/// longer one.
 #[test]
 fn full_and_overlapping() {
     let mut life = Life::new(4 * 512);

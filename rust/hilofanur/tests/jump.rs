@@ -97,7 +97,8 @@ fn as_the_isa_says() {
     }
 }
 
-/// Each helper by one instruction after C.NOP: c.nop, then ld x10, -8(x11); sd x11, 8(x10); amoadd.w x10, x11, (x10); c.lw.
+/// Each helper by one instruction after C.NOP: c.nop, then ld x10, -8(x11); sd x11, 8(x10); amoadd.w x10, x11, (x10);
+/// c.lw.
 #[test]
 fn helpers() {
     let mut store = ExecutableStore::new(1 << 16).unwrap();

@@ -129,8 +129,8 @@ fn rv64_run_by_number() {
     }
 }
 
-/// Words to begin at in a block of at most two: inside, at their number, beyond it, and such that four times the number is a
-/// word's offset modulo 2^64.
+/// Words to begin at in a block of at most two: inside, at their number, beyond it, and such that four times the
+/// number is a word's offset modulo 2^64.
 const FIRSTS: [u64; 8] = [0, 1, 2, 3, 1 << 62, (1 << 62) + 1, 1 << 63, u64::MAX];
 
 /// Every byte of it is other than 0.
@@ -260,7 +260,8 @@ fn list_accepts_the_edges() {
 
 const KEY: Key = Key { space: 3, pc: 0x1000 };
 
-/// Length `length` is refused by 15 in a store of `size`, by an index that is empty and by one with blocks; what is lent stays.
+/// Length `length` is refused by 15 in a store of `size`, by an index that is empty and by one with blocks; what is
+/// lent stays.
 fn refuse_index_place(size: usize, length: usize) {
     let code = vec![1; length];
     let mut store = vec![FILL; size];

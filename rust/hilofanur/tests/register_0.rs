@@ -1,5 +1,5 @@
-//! Register 0 without its slot (document 02, No. 6): its loads are MOVZ with 0, inline, in leftover words and in stubs, and
-//! whatever slot 0 holds is neither read nor written.
+//! Register 0 without its slot (document 02, No. 6): its loads are MOVZ with 0, inline, in leftover words and in
+//! stubs, and whatever slot 0 holds is neither read nor written.
 
 use draw::forms::{self, encode};
 use draw::values::{registers, value};
@@ -22,8 +22,8 @@ fn translated(bytes: &[u8], slot_offset: u64) -> Option<(Vec<u8>, EndKind)> {
     Some((output[..block.length].to_vec(), block.end))
 }
 
-/// Words by hand, from document 01's rules with MOVZ for the loads: addi x5, x0, 1; c.nop and an encoding of OP that leaves
-/// two loads; beq x0, x0, 8; jalr x0, 4(x0); lw x10, 0(x0) and sd x0, 8(x0), up to the moves.
+/// Words by hand, from document 01's rules with MOVZ for the loads: addi x5, x0, 1; c.nop and an encoding of OP that
+/// leaves two loads; beq x0, x0, 8; jalr x0, 4(x0); lw x10, 0(x0) and sd x0, 8(x0), up to the moves.
 #[test]
 fn words_by_hand() {
     let rows: [(&[u8], EndKind, &[u32]); 6] = [
@@ -59,8 +59,8 @@ fn run(block: &[u8], end: EndKind, slots: &Registers, slot_offset: u64) -> (Vec<
     (numbers, Registers::from_bytes(memory.first_chunk().unwrap()))
 }
 
-/// With anything in slot 0 the block does what it does with 0 there, and leaves slot 0; the RV64 run is the same with anything in
-/// register 0's entry as with 0 there, and gives 0 back unless it refuses.
+/// With anything in slot 0 the block does what it does with 0 there, and leaves slot 0; the RV64 run is the same with
+/// anything in register 0's entry as with 0 there, and gives 0 back unless it refuses.
 fn hold(bytes: &[u8], block: &[u8], end: EndKind, slot_offset: u64, random: &mut Random) {
     let mut zero = Registers { x: registers(|| value(random)) };
     let mut rubbish = zero;

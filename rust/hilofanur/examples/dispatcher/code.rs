@@ -1,5 +1,5 @@
-//! Blocks: translated, placed in a store, found again by PC through the library's index. Those that FENCE.I ends are run once,
-//! from a store of their own.
+//! Blocks: translated, placed in a store, found again by PC through the library's index. Those that FENCE.I ends are
+//! run once, from a store of their own.
 
 use hilofanur::{place, translate, Block, EndKind, Guest, Host};
 use hilofanur::{Index, Key, Refusal, LONGEST_BLOCK};
@@ -105,7 +105,8 @@ impl Code {
         Ok(start)
     }
 
-    /// Places the new block, which FENCE.I ended, outside the index, and empties that: no block of before is found behind it.
+    /// Places the new block, which FENCE.I ended, outside the index, and empties that: no block of before is found
+    /// after it.
     fn fence(&mut self, block: &Block) -> Result<usize, Refusal> {
         self.fences += 1;
         if self.on_fence == OnFence::Empty {
@@ -151,7 +152,8 @@ mod tests {
         (ready.new.is_some(), ready.count, words.len() / 4, address)
     }
 
-    /// C.NOP, two times C.NOP, and C.NOP with FENCE.I behind it: placed are the first two, once each, and behind FENCE.I again.
+    /// C.NOP, two times C.NOP, and C.NOP with FENCE.I after it: placed are the first two, once each, and after
+    /// FENCE.I again.
     #[test]
     fn fence_i_empties() {
         let mut code = Code::new(64, OnFence::Empty);

@@ -1,4 +1,4 @@
-//! A block's run beside the RV64 run of its guest: what differs at its return or its call, and what behind the call.
+//! A block's run beside the RV64 run of its guest: what differs at its return or its call, and what after the call.
 
 use super::code::HOST;
 use super::host::{Machine, Running, BASE, SIZE, SLOTS, SP};
@@ -83,8 +83,8 @@ impl<'a> Run<'a> {
         wrong
     }
 
-    /// Behind the call, against what the helper left, which did one instruction.
-    pub fn differences_behind(
+    /// After the call, against what the helper left, which did one instruction.
+    pub fn differences_after(
         &self,
         (left, after): (Machine, Machine),
         ended: A64Run,
@@ -93,13 +93,13 @@ impl<'a> Run<'a> {
         let steps = self.block.number() - self.ended.steps;
         let returned = A64Run { end: End::Returned, steps };
         self.wrong(&[
-            ("end behind the call", ended == returned),
-            ("next PC behind the call", state.x[0] == left_state.x[0]),
-            ("count behind the call", state.x[1] == u64::from(self.block.count)),
-            ("SP behind the call", state.sp == SP),
-            ("X30 behind the call", state.x[30] == entry.x[30]),
-            ("X18 to X29 behind the call", state.x[18..30] == left_state.x[18..30]),
-            ("memory behind the call", after.memory == left.memory),
+            ("end after the call", ended == returned),
+            ("next PC after the call", state.x[0] == left_state.x[0]),
+            ("count after the call", state.x[1] == u64::from(self.block.count)),
+            ("SP after the call", state.sp == SP),
+            ("X30 after the call", state.x[30] == entry.x[30]),
+            ("X18 to X29 after the call", state.x[18..30] == left_state.x[18..30]),
+            ("memory after the call", after.memory == left.memory),
         ])
     }
 
@@ -179,7 +179,7 @@ mod tests {
         let found = |changes: &[(usize, u32)]| differences(&[0x7D, 0x55], changes);
         assert_eq!(found(&[]), "");
         assert_eq!(found(&[(0, 0xD29F_FFCB)]), "registers");
-        // STR X11, [X0, #320]: behind the slots
+        // STR X11, [X0, #320]: after the slots
         assert_eq!(found(&[(4, 0xF900_A00B)]), "registers, other memory");
         assert_eq!(found(&[(5, 0xD282_0060)]), "next PC");
         assert_eq!(found(&[(6, 0xD280_0041)]), "count");
@@ -213,23 +213,23 @@ mod tests {
         assert_eq!(found(&[(6, 0xD282_0006)]), "helper's arguments");
         assert_eq!(found(&[(7, 0xD280_0010)]), "helper's arguments");
         // SUB SP by 32; STR X30, [SP, #8]; BLR before STR
-        let lower = "other memory, SP, saved X30, SP behind the call";
+        let lower = "other memory, SP, saved X30, SP after the call";
         assert_eq!(found(&[(10, 0xD100_83FF)]), lower);
-        assert_eq!(found(&[(11, 0xF900_07FE)]), "saved X30, X30 behind the call");
+        assert_eq!(found(&[(11, 0xF900_07FE)]), "saved X30, X30 after the call");
         // STR X30, [SP, #16]: above the 16 bytes
-        let above = "other memory, saved X30, X30 behind the call";
+        let above = "other memory, saved X30, X30 after the call";
         assert_eq!(found(&[(11, 0xF900_0BFE)]), above);
         // RET in place of the call
         let returned = "other memory, end, count, next PC, SP, X2 to X8, X30";
         assert_eq!(found(&[(12, 0xD65F_03C0)]), returned);
     }
 
-    /// The words behind the same block's call: LDR X30, ADD SP, MOVZ X12 with the one before, ADD X1, RET.
+    /// The words after the same block's call: LDR X30, ADD SP, MOVZ X12 with the one before, ADD X1, RET.
     #[test]
-    fn behind_the_call() {
+    fn after_the_call() {
         let found = |index, word| {
             let found = differences(&[1, 0, 0xC8, 0x41], &[(index, word)]);
-            found.replace(" behind the call", "")
+            found.replace(" after the call", "")
         };
         // LDR X30, [SP, #8]; MOVZ X30; MOVZ X18
         assert_eq!(found(13, 0xF940_07FE), "X30");

@@ -5,8 +5,8 @@ use super::host::{Machine, BASE};
 use super::memory::{Access, Memory};
 use draw::Random;
 
-/// The access that the arguments tell, and the PC of its instruction: the memory helper gets the access, the others the
-/// instruction.
+/// The access that the arguments tell, and the PC of its instruction: the memory helper gets the access, the others
+/// the instruction.
 fn asked(machine: &Machine) -> (Option<Access>, u64) {
     let x = &machine.state.x;
     if x[16] == HOST.memory_helper {
@@ -16,8 +16,8 @@ fn asked(machine: &Machine) -> (Option<Access>, u64) {
     (instr.and_then(|instr| Access::decode(instr, &machine.slots())), x[6])
 }
 
-/// Does the helper's work in the guest's memory and the slots: what it was, or why it cannot be done. X0 is then the next PC and
-/// X1 the one instruction. SP and the eight bytes there stay; nothing else does.
+/// Does the helper's work in the guest's memory and the slots: what it was, or why it cannot be done. X0 is then the
+/// next PC and X1 the one instruction. SP and the eight bytes there stay; nothing else does.
 pub fn help(
     machine: &mut Machine,
     memory: &mut Memory,

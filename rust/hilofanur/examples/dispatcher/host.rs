@@ -1,4 +1,5 @@
-//! The host's side: a memory with the slots and a stack in it, where a block's words are run, with its helper's work in between.
+//! The host's side: a memory with the slots and a stack in it, where a block's words are run, with its helper's work
+//! in between.
 
 use super::code::HOST;
 use super::compare::Run;
@@ -97,8 +98,8 @@ impl HostSide {
         machine
     }
 
-    /// Runs the block's words with the registers in the slots, and the guest's instructions beside it. Where it calls a helper, that
-    /// does its work in the guest's memory, and the block goes on behind the call.
+    /// Runs the block's words with the registers in the slots, and the guest's instructions beside it. Where it calls
+    /// a helper, that does its work in the guest's memory, and the block goes on after the call.
     pub fn run(
         &mut self,
         block: &Running,
@@ -119,7 +120,7 @@ impl HostSide {
             if helped.is_ok() {
                 let left = machine;
                 ended = machine.run(block, steps)?;
-                differences.extend(run.differences_behind((left, machine), ended));
+                differences.extend(run.differences_after((left, machine), ended));
                 steps += ended.steps;
             }
             helper = Some(helped.map_err(|text| run.not_served(&text)));

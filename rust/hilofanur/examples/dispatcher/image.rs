@@ -2,7 +2,7 @@
 
 use super::memory::Memory;
 
-/// Room behind the program, for the guest's stack.
+/// Room after the program, for the guest's stack.
 const STACK: u64 = 0x1_0000;
 /// The most memory that a program may ask for.
 const MOST: u64 = 1 << 28;
@@ -15,7 +15,7 @@ pub struct Image {
     pub entry: u64,
 }
 
-/// Bytes of the file and the address where they go; behind them zeros, `size` bytes in all.
+/// Bytes of the file and the address where they go; after them zeros, `size` bytes in all.
 struct Segment<'a> {
     bytes: &'a [u8],
     address: u64,

@@ -1,18 +1,17 @@
 //! A dispatcher: runs an RV64 program block by block, as A64 words and beside them as the ISA says, and compares.
 //!
-//! `dispatcher [--keep] [--store BYTES] [FILE [ENTRY [BASE]]]`: an ELF64 file, or a raw binary that goes to BASE; ENTRY and
-//! BASE in hexadecimal. Without a file it takes examples/centroid/centroid.
+//! `dispatcher [--keep] [--store BYTES] [FILE [ENTRY [BASE]]]`: an ELF64 file, or a raw binary that goes to BASE;
+//! ENTRY and BASE in hexadecimal. Without a file it takes examples/centroid/centroid.
 //!
-//! A block is translated, placed and then run by the library's A64 run, which stands in for the Arm processor. The first
-//! one's words are listed.
-//! The library's index keeps the blocks, in a store of BYTES, without it 1 MiB; where that is full, new blocks take the place
-//! of old ones, which are translated again when their turn comes.
-//! A guest that changes its code executes FENCE.I, which ends a block: that block is run but not placed, and the index is
-//! emptied. With --keep it is not emptied, only to show what comes of it: blocks of the old code are run, and the comparison,
-//! which reads the guest's code anew, tells of them.
-//! A block that ends in a helper instruction runs up to its call; the dispatcher compares the call's arguments, does the load
-//! or store as a helper would, and lets the block go on behind the call to its return, which it compares too.
-//! ECALL ends a block too: `write` (64) is served, `exit` (93) ends the program, and so does EBREAK.
+//! A block is translated, placed and then run by the library's A64 run, which stands in for the Arm processor. The
+//! first one's words are listed. The library's index keeps the blocks, in a store of BYTES, without it 1 MiB; where
+//! that is full, new blocks take the place of old ones, which are translated again when their turn comes. A guest
+//! that changes its code executes FENCE.I, which ends a block: that block is run but not placed, and the index is
+//! emptied. With --keep it is not emptied, only to show what comes of it: blocks of the old code are run, and the
+//! comparison, which reads the guest's code anew, tells of them. A block that ends in a helper instruction runs up to
+//! its call; the dispatcher compares the call's arguments, does the load or store as a helper would, and lets the
+//! block go on after the call to its return, which it compares too. ECALL ends a block too: `write` (64) is served,
+//! `exit` (93) ends the program, and so does EBREAK.
 
 mod code;
 mod compare;
@@ -50,9 +49,9 @@ struct Counts {
     runs: u64,
     instructions: u64,
     words: u64,
-    /// Blocks that returned, and how many of them behind a call; helpers' loads and stores.
+    /// Blocks that returned, and how many of them after a call; helpers' loads and stores.
     returned: u64,
-    behind: u64,
+    after: u64,
     loads: u64,
     stores: u64,
     ecalls: u64,
@@ -69,7 +68,7 @@ struct Dispatcher {
     counts: Counts,
 }
 
-/// How a program goes on behind an ECALL or EBREAK.
+/// How a program goes on after an ECALL or EBREAK.
 enum Flow {
     Next,
     Ended(u64),
@@ -146,7 +145,7 @@ impl Dispatcher {
             println!("  {runs} blocks run, {instructions} instructions, {differences} differences");
         }
         if let Some(access) = done.helper.transpose()? {
-            counts.behind += u64::from(done.returned);
+            counts.after += u64::from(done.returned);
             *(if access.store { &mut counts.stores } else { &mut counts.loads }) += 1;
         }
         Ok(())
@@ -171,14 +170,14 @@ impl Dispatcher {
 
     fn summary(&self) {
         let Counts { runs, instructions, words, differences, .. } = self.counts;
-        let Counts { returned, behind, loads, stores, ecalls, .. } = self.counts;
+        let Counts { returned, after, loads, stores, ecalls, .. } = self.counts;
         let Code { translated, placed, found, fences, emptied, .. } = self.code;
         println!("blocks: {translated} translated into {} words", self.code.words);
         println!("index: {placed} placed, {found} found, {} dropped", self.code.dropped());
         println!("fences: {fences}, which emptied the index of {emptied} blocks");
         println!("run: {runs} blocks, {instructions} guest instructions, {words} A64 words");
         println!(
-            "stops: {returned} returned, {behind} of them behind a call ({loads} loads, {stores} stores), {ecalls} ecall"
+            "stops: {returned} returned, {after} of them after a call ({loads} loads, {stores} stores), {ecalls} ecall"
         );
         println!("differences: {differences}");
     }

@@ -27,6 +27,6 @@ calibrate:
     sw a1, 0(t0)
     fence
     fence.i
-number: /* patched, right behind FENCE.I */
+number: /* patched, right after FENCE.I */
     li a0, 0
     ret

@@ -1,4 +1,4 @@
-//! Bytes with an inaccessible page before and behind them, at the very start or the very end of their pages.
+//! Bytes with an inaccessible page before and after them, at the very start or the very end of their pages.
 
 use std::ffi::{c_int, c_void};
 use std::ops::{Deref, DerefMut};
@@ -48,7 +48,7 @@ impl Guarded {
         assert_ne!(map as isize, -1, "mmap");
         let map: *mut u8 = map.cast();
         let first = PAGE + if edge == Edge::End { inside - length } else { 0 };
-        // SAFETY: `first` and the bytes behind it are inside the mapping.
+        // SAFETY: `first` and the bytes after it are inside the mapping.
         Guarded { map, inside, first: unsafe { map.add(first) }, length }
     }
 
@@ -80,7 +80,7 @@ impl Guarded {
     }
 
     /// Has to fault at the end of the pages.
-    pub fn read_behind(&self) -> u8 {
+    pub fn read_after(&self) -> u8 {
         // SAFETY: none; it is for a process that has to end by it.
         unsafe { self.first.add(self.length).read_volatile() }
     }

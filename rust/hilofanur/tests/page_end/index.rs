@@ -1,5 +1,5 @@
-//! The index between inaccessible pages, in good order and with any bytes. It is eleven pages long, so that a byte too far
-//! on either side faults.
+//! The index between inaccessible pages, in good order and with any bytes. It is eleven pages long, so that a byte
+//! too far on either side faults.
 
 use super::guard::{Edge, Guarded};
 use super::{EDGES, FILL};
@@ -10,7 +10,8 @@ use hilofanur::{Key, INDEX_BYTES};
 
 const SEEDS: u64 = 12;
 const STORES: [usize; 10] = [0, 1, 3, 4, 7, 64, 100, 4_096, 7_448, 20_000];
-/// Where an index has its entries, and the bytes of one: space and PC, start and length, eight bytes each, then others.
+/// Where an index has its entries, and the bytes of one: space and PC, start and length, eight bytes each, then
+/// others.
 const ENTRIES: usize = 4_096;
 const ENTRY: usize = 40;
 
@@ -46,8 +47,8 @@ fn look_up(index: &Guarded, key: Key) -> IndexLookupAnswer {
     index_lookup(index.first_chunk().unwrap(), key)
 }
 
-/// Places code: refused for its length alone and with all bytes as they were, else copied to where the answer says, which
-/// is in the store, and no other byte of the store changed.
+/// Places code: refused for its length alone and with all bytes as they were, else copied to where the answer says,
+/// which is in the store, and no other byte of the store changed.
 fn place(
     index: &mut Guarded,
     store: &mut Guarded,
@@ -117,8 +118,8 @@ fn placings_in_rubbish() {
     assert!(met[0] > 2_000 && met[15] > 1_000, "{met:?}");
 }
 
-/// Emptied, rubbish is an index like any other: no key is found, the first block goes to the front, and each is found behind
-/// its placing, often enough for the oldest to be dropped.
+/// Emptied, rubbish is an index like any other: no key is found, the first block goes to the front, and each is found
+/// after its placing, often enough for the oldest to be dropped.
 #[test]
 fn emptied_rubbish() {
     for (seed, edge) in (0..4).flat_map(|seed| EDGES.map(|edge| (seed, edge))) {

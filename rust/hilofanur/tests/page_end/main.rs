@@ -1,6 +1,5 @@
-//! Recorded answers, listings and the index through the library, every lent slice between inaccessible pages: a byte too
-//! far faults.
-//! Slices that are lent to be read only stand in pages that cannot be written.
+//! Recorded answers, listings and the index through the library, every lent slice between inaccessible pages: a byte
+//! too far faults. Slices that are lent to be read only stand in pages that cannot be written.
 
 mod guard;
 mod index;
@@ -145,7 +144,8 @@ fn a64_runs() {
     }
 }
 
-/// Each run cut after one of its words, and gone on with there: it ends as recorded. From a word beyond the last no more comes.
+/// Each run cut after one of its words, and gone on with there: it ends as recorded. From a word beyond the last no
+/// more comes.
 #[test]
 fn a64_runs_in_two_parts() {
     let cases = a64_cases(A64).into_iter().step_by(8).chain(a64_cases(A64_RULES));
@@ -174,8 +174,8 @@ fn a64_runs_in_two_parts() {
     }
 }
 
-/// Lists a block between the pages, the output exactly as long as the listing, a byte shorter, longer, or empty; the plain
-/// writer's refusal where it is long enough.
+/// Lists a block between the pages, the output exactly as long as the listing, a byte shorter, longer, or empty; the
+/// plain writer's refusal where it is long enough.
 fn listed(block: &[u8], edge: Edge) -> u64 {
     let mut plain = vec![FILL; block.len().div_ceil(4) * LONGEST_LINE];
     let whole = steppers::list(block, &mut plain);
@@ -235,7 +235,7 @@ fn a_byte_too_far() {
     let access = std::env::var(TRY).unwrap();
     let bytes = Guarded::read_only(&[1, 2, 3], Edge::End);
     match access.as_str() {
-        "behind" => drop(bytes.read_behind()),
+        "after" => drop(bytes.read_after()),
         "before" => drop(Guarded::new(&[1, 2, 3], Edge::Start).read_before()),
         "write" => bytes.write_first(),
         _ => {}
@@ -247,7 +247,7 @@ fn a_byte_too_far() {
 fn guards_fault() {
     const SIGSEGV: i32 = 11;
     for (access, signal) in
-        [("behind", Some(SIGSEGV)), ("before", Some(SIGSEGV)), ("write", Some(SIGSEGV)), ("", None)]
+        [("after", Some(SIGSEGV)), ("before", Some(SIGSEGV)), ("write", Some(SIGSEGV)), ("", None)]
     {
         let child = Command::new(std::env::current_exe().unwrap())
             .args(["--ignored", "--exact", "a_byte_too_far"])
