@@ -141,7 +141,7 @@ fn behind_a_call() {
     assert_eq!(answer, A64Answer { refusal: 0, end: steppers::RETURNED, steps: 5 });
     assert_eq!(proved(&block), (answer, after.to_bytes()));
     row(
-        "A64 run from, behind a call",
+        "A64 run from, after a call",
         (1, "call"),
         &[block],
         |block| proved(black_box(block)),
