@@ -70,6 +70,23 @@ static void call(void)
     printf(" %" PRIu32 "\n", hilofanur_a64_run_from(block, 4, 0, 9, state, 9, memory, 2, UINT64_MAX).refusal);
 }
 
+/* Each end of a run, by one word: none, RET without a budget, a word outside the forms, LDR outside memory, RET, BLR. */
+static void ends(void)
+{
+    static const uint32_t words[] = {0, 0xD65F03C0, 0, 0xF9400009, 0xD65F03C0, 0xD63F0200};
+    static const enum hilofanur_end names[] = {HILOFANUR_OFF_THE_END, HILOFANUR_SPENT, HILOFANUR_UNREADABLE,
+        HILOFANUR_FAULT, HILOFANUR_RETURNED, HILOFANUR_CALLED};
+    printf("ends");
+    for (int n = 0; n < 6; n++) {
+        uint8_t state[HILOFANUR_STATE] = {0}, memory[1] = {0}, block[4];
+        for (int k = 0; k < 4; k++)
+            block[k] = words[n] >> 8 * k;
+        struct hilofanur_a64_run_answer run = hilofanur_a64_run(block, n ? 4 : 0, 0, state, n != 1, memory, 0, 0);
+        printf(" %d:%" PRIu32, names[n] == run.end, run.end);
+    }
+    printf("\n");
+}
+
 static void place(uint8_t *index, uint8_t *store, size_t length, uint64_t pc, const uint8_t *code, size_t code_length)
 {
     struct hilofanur_index_place_answer placed =
@@ -143,5 +160,7 @@ int main(void)
     use_index();
     end_kinds();
     call();
+    ends();
+    printf("version %s\n", HILOFANUR_VERSION);
     return 0;
 }

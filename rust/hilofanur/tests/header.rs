@@ -50,6 +50,9 @@ off the end 1 0
 refused 10 11
 ";
 
+/// Each end of a run, as the header names it and by number.
+const ENDS: &str = "ends 1:1 1:2 1:3 1:4 1:5 1:6\n";
+
 #[test]
 fn from_c() {
     let here = Path::new(env!("CARGO_MANIFEST_DIR"));
@@ -65,7 +68,9 @@ fn from_c() {
     let ran = Command::new(&program).output().unwrap();
     let others = "refused 1\nrefused 6\nplaced 8 28\nran 1 1002 ff\nend 1 5 1002\n";
     let bytes = format!("index bytes {INDEX_BYTES}\n");
-    let expected = [PRINTED, others, LISTED, INDEXED, &bytes, ENDED, CALLED].concat();
+    let version = concat!("version ", env!("CARGO_PKG_VERSION"), "\n");
+    let expected =
+        [PRINTED, others, LISTED, INDEXED, &bytes, ENDED, CALLED, ENDS, version].concat();
     assert_eq!(String::from_utf8_lossy(&ran.stdout), expected);
     assert!(ran.status.success());
 }
