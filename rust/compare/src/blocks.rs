@@ -90,8 +90,8 @@ impl Compared for Blocks {
             Err(_) => return Ok(3),
             Ok(block) => block,
         };
-        let outcome = block.end as usize - 1;
-        if block.end == EndKind::Helper {
+        let outcome = block.end_kind as usize - 1;
+        if block.end_kind == EndKind::Helper {
             return Ok(outcome);
         }
         let registers = Registers { x: registers(|| value(random)) };

@@ -266,7 +266,7 @@ impl Compared for Helpers {
         let (guest, host) = question(&case);
         let block = translate(&guest, &host, &mut self.output)
             .map_err(|refusal| format!("{case:x?}: {refusal}"))?;
-        if (block.count as usize, block.end) != (prefix + 1, EndKind::Helper) {
+        if (block.count as usize, block.end_kind) != (prefix + 1, EndKind::Helper) {
             return Err(format!("{case:x?}: {block:?}, of {} a helper's", prefix + 1));
         }
         let words = &self.output[..block.length];

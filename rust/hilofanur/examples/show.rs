@@ -23,7 +23,7 @@ fn block(code: &Code, limit: usize) -> Result<(Vec<u8>, u32, EndKind), Refusal> 
         Host { slot_offset: 0, memory_helper: 0x10000, helper32: 0x20000, helper16: 0x30000 };
     let mut output = [0; LONGEST_BLOCK];
     let block = translate(&guest, &host, &mut output)?;
-    Ok((output[..block.length].to_vec(), block.count, block.end))
+    Ok((output[..block.length].to_vec(), block.count, block.end_kind))
 }
 
 /// How many words two blocks have in common, from the front.

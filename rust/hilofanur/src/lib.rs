@@ -12,7 +12,7 @@
 //! let host = Host { slot_offset: 0, memory_helper: 0x10000, helper32: 0x20000, helper16: 0x30000 };
 //! let mut output = [0; hilofanur::LONGEST_BLOCK];
 //! let block = translate(&guest, &host, &mut output)?;
-//! assert_eq!((block.length, block.count, block.end), (32, 1, EndKind::Plain));
+//! assert_eq!((block.length, block.count, block.end_kind), (32, 1, EndKind::Plain));
 //!
 //! let mut store = vec![0; 4096];
 //! let placed = place(&mut store, 0, &output[..block.length])?;
@@ -66,7 +66,7 @@
 //! let host = Host { slot_offset: 0, memory_helper: 0x10000, helper32: 0x20000, helper16: 0x30000 };
 //! let mut output = [0; hilofanur::LONGEST_BLOCK];
 //! let block = translate(&guest, &host, &mut output)?;
-//! assert_eq!((block.count, block.end), (2, EndKind::Helper));
+//! assert_eq!((block.count, block.end_kind), (2, EndKind::Helper));
 //! let words = &output[..block.length];
 //!
 //! // Memory is the slots, of which x11's holds 0x2000, and the 16 bytes below SP.
@@ -152,7 +152,7 @@ pub struct Block {
     /// The guest instructions in it; a helper instruction counts.
     pub count: u32,
     /// What ended it.
-    pub end: EndKind,
+    pub end_kind: EndKind,
 }
 
 /// Where code was placed.
@@ -192,8 +192,8 @@ pub struct A64Run {
 pub fn translate(guest: &Guest, host: &Host, output: &mut [u8]) -> Result<Block, Refusal> {
     let answer = boundary::translate(guest, host, output);
     accepted(answer.refusal)?;
-    let end = EndKind::from_number(answer.end).expect("the library ends a block as 1 to 3");
-    Ok(Block { length: answer.length as usize, count: answer.count, end })
+    let end_kind = EndKind::from_number(answer.end).expect("the library ends a block as 1 to 3");
+    Ok(Block { length: answer.length as usize, count: answer.count, end_kind })
 }
 
 /// Place: copies `code` into `store` at `used`, rounded up to a multiple of 4; other bytes stay.

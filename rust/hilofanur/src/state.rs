@@ -80,7 +80,7 @@ fn numbers<const N: usize>(bytes: &[u8]) -> [u64; N] {
 /// let guest = Guest { bytes: &bytes, pc: 0x1000, limit: 64, ignore_ebreak: false };
 /// let host = Host { slot_offset: 0, memory_helper: 0x10000, helper32: 0x20000, helper16: 0x30000 };
 /// let block = translate(&guest, &host, &mut [0; 64])?;
-/// assert_eq!((block.count, block.end), (1, EndKind::Drop));
+/// assert_eq!((block.count, block.end_kind), (1, EndKind::Drop));
 /// assert_eq!(EndKind::from_number(3), Some(EndKind::Drop));
 /// # Ok::<(), Refusal>(())
 /// ```

@@ -119,7 +119,7 @@ impl Row {
         let guest = Guest { bytes: self.guest, pc: PC, limit: 64, ignore_ebreak: false };
         let mut output = vec![0; LONGEST_BLOCK];
         let block = translate(&guest, &HOST, &mut output).unwrap();
-        assert_eq!((block.count, block.end), (self.count, EndKind::Helper));
+        assert_eq!((block.count, block.end_kind), (self.count, EndKind::Helper));
         output.truncate(block.length);
         output
     }

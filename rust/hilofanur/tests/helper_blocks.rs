@@ -130,7 +130,7 @@ impl Case {
         let host = Host { slot_offset, memory_helper, helper32, helper16 };
         let mut output = vec![0; *room];
         let block = translate(&guest, &host, &mut output).unwrap();
-        assert_eq!((block.count, block.end), (self.count, EndKind::Helper), "{guest:x?}");
+        assert_eq!((block.count, block.end_kind), (self.count, EndKind::Helper), "{guest:x?}");
         assert_eq!(output[..block.length], self.words, "{guest:x?}");
         let called = (Ok(A64Run { end: End::Called, steps }), self.called.clone());
         assert_eq!(self.run(0, &self.entry), called, "{guest:x?}");

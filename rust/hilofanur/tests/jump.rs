@@ -69,7 +69,7 @@ fn jump(
     let hart = &raw mut *hart;
     // SAFETY: a whole block, placed and closed; X0 leads to the hart, as the first number does for the helpers.
     let next = unsafe { store.call(start, hart.cast(), [hart as u64, 21, 22, 23, 24]) };
-    (next, block.end)
+    (next, block.end_kind)
 }
 
 /// Drawn blocks that no helper ends, each over the one before it: next PC, count and registers as the ISA says.
@@ -85,7 +85,8 @@ fn as_the_isa_says() {
         let mut hart = hart(expected.x);
         hart.x[0] = random.next();
         let Ok(run) = rv64_run(&guest, &mut expected) else { continue };
-        if translate(&guest, &host(), &mut [0; LONGEST_BLOCK]).unwrap().end == EndKind::Helper {
+        if translate(&guest, &host(), &mut [0; LONGEST_BLOCK]).unwrap().end_kind == EndKind::Helper
+        {
             continue;
         }
         let slot_0 = hart.x[0];

@@ -61,14 +61,14 @@ fn translate_accepts_the_edges() {
         let mut output = vec![FILL; room];
         let host = Host { slot_offset, ..HOST };
         let block = translate(&guest(NOP, 0x1000, u32::MAX), &host, &mut output).unwrap();
-        assert_eq!((block.length, block.count, block.end), (12, 1, EndKind::Plain));
+        assert_eq!((block.length, block.count, block.end_kind), (12, 1, EndKind::Plain));
         assert_eq!(output[12..], vec![FILL; room - 12]);
     }
     let flagged = Guest { ignore_ebreak: true, ..guest(&[2, 0x90], 0x1000, 1) };
     assert_eq!(translate(&flagged, &HOST, &mut [0; 64]).unwrap().count, 1);
     // c.lw x8, 0(x8)
     let block = translate(&guest(&[0, 0x40], 0x1000, 1), &HOST, &mut [0; 256]).unwrap();
-    assert_eq!((block.count, block.end), (1, EndKind::Helper));
+    assert_eq!((block.count, block.end_kind), (1, EndKind::Helper));
 }
 
 fn refuse_place(number: u64, size: usize, used: u64, length: usize) {

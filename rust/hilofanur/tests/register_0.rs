@@ -19,7 +19,7 @@ fn translated(bytes: &[u8], slot_offset: u64) -> Option<(Vec<u8>, EndKind)> {
     let guest = Guest { bytes, pc: 0x1000, limit: 64, ignore_ebreak: false };
     let mut output = [0; LONGEST_BLOCK];
     let block = translate(&guest, &host(slot_offset), &mut output).ok()?;
-    Some((output[..block.length].to_vec(), block.end))
+    Some((output[..block.length].to_vec(), block.end_kind))
 }
 
 /// Words by hand, from document 01's rules with MOVZ for the loads: addi x5, x0, 1; c.nop and an encoding of OP that

@@ -89,7 +89,7 @@ impl Code {
         let block = translate(guest, &HOST, &mut self.output)?;
         self.translated += 1;
         self.words += block.length as u64 / 4;
-        let once = block.end == EndKind::Drop;
+        let once = block.end_kind == EndKind::Drop;
         let start = if once { self.fence(&block)? } else { self.keep(guest.pc, &block)? };
         let Block { length, count, .. } = block;
         Ok(Ready { start, length, once, count, new: Some(block) })

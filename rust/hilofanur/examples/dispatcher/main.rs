@@ -185,7 +185,7 @@ impl Dispatcher {
 
 fn print_block(pc: u64, block: &Block) {
     let (count, words) = (block.count, block.length / 4);
-    let last = match block.end {
+    let last = match block.end_kind {
         EndKind::Plain => "",
         EndKind::Helper => ", the last by a helper",
         EndKind::Drop => ", the last FENCE.I",
