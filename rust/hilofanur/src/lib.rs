@@ -94,6 +94,8 @@
 #![deny(unsafe_code)]
 #![warn(missing_docs)]
 
+// For comparisons, which read every number of an answer.
+#[doc(hidden)]
 pub mod boundary;
 mod index;
 #[cfg(all(target_arch = "aarch64", target_os = "linux"))]

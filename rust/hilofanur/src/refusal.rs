@@ -15,6 +15,7 @@ use std::fmt;
 /// assert_eq!(Refusal::OddPc.to_string(), "refused 3: odd PC");
 /// ```
 #[derive(Clone, Copy, Debug, PartialEq, Eq, Hash)]
+#[non_exhaustive]
 pub enum Refusal {
     /// Translate: the slot offset is not a multiple of 8 or above 32,512.
     SlotOffset = 1,
