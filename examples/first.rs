@@ -1,9 +1,8 @@
 //! Translates a guest block, lists it, runs it, places it and looks it up. It runs on x86-64 and on AArch64; the
 //! block's words are done by `a64_run`, so that no Arm processor is needed.
 
-use hilofanur::{
-    a64_run, list, translate, A64State, End, Guest, Host, Index, Key, Refusal, Registers,
-};
+use hilofanur::{a64_run, list, translate, A64State, End, Guest, Host};
+use hilofanur::{Index, Key, Memory, Refusal, Registers, Words};
 
 /// addi a0, a0, 5; add a0, a0, a1; ret
 const GUEST: [u8; 10] = [0x13, 0x05, 0x55, 0x00, 0x33, 0x05, 0xb5, 0x00, 0x82, 0x80];
@@ -18,17 +17,17 @@ fn main() -> Result<(), Refusal> {
         Host { slot_offset: 0, memory_helper: 0x10000, helper32: 0x20000, helper16: 0x30000 };
     let mut output = [0; hilofanur::LONGEST_BLOCK];
     let block = translate(&guest, &host, &mut output)?;
-    let words = &output[..block.length];
+    let words = Words { bytes: &output[..block.length], address: 0x4_0000 };
     println!("{} guest instructions, {} words:", block.count, block.length / 4);
-    print!("{}", list(words)?);
+    print!("{}", list(words.bytes)?);
 
     // The guest's registers, one to a slot, are the run's whole memory. X0 has its address.
     let mut registers = Registers::default();
     (registers.x[RA], registers.x[A0], registers.x[A1]) = (0x2000, 30, 7);
     let (mut slots, mut state) = (registers.to_bytes(), A64State::default());
     state.x[0] = 0x8000;
-    let budget = block.length as u64 / 4;
-    let run = a64_run(words, 0x4_0000, &mut state, budget, &mut slots, 0x8000)?;
+    let memory = Memory { bytes: &mut slots, base: 0x8000 };
+    let run = a64_run(words, &mut state, block.length as u64 / 4, memory)?;
     let a0 = Registers::from_bytes(&slots).x[A0];
     let ended = if run.end == End::Returned { "returned" } else { "stopped" };
     print!("run: {ended} after {} words, a0 = {a0}", run.steps);
@@ -37,9 +36,9 @@ fn main() -> Result<(), Refusal> {
     // For years: an index of blocks and its store.
     let (mut index, mut store) = (Index::new(), vec![0; 1 << 16]);
     let key = Key { space: 0, pc: PC };
-    let start = index.place(&mut store, key, block.count as u8, words)?;
+    let start = index.place(&mut store, key, block.count as u8, words.bytes)?;
     let found = index.lookup(key)?;
-    let same = &store[found.start..][..found.length] == words;
+    let same = &store[found.start..][..found.length] == words.bytes;
     println!(
         "placed at {start} and found: {}",
         if same { "the same words" } else { "NOT THE SAME" }

@@ -5,7 +5,7 @@ use draw::guest::Guests;
 use draw::values::{registers, value, Pool};
 use draw::{Random, LONGEST};
 use hilofanur::{a64_run, rv64_run, translate};
-use hilofanur::{A64Run, A64State, End, EndKind, Guest, Registers};
+use hilofanur::{A64Run, A64State, End, EndKind, Guest, Memory, Registers, Words};
 
 /// The bytes of the 32 slots.
 const SLOTS: usize = 256;
@@ -59,7 +59,9 @@ fn run(
     let before = A64State { x, sp: random.next(), nzcv: random.next() };
     let (mut after, mut expected) = (before, memory.clone());
     let steps = words.len() as u64 / 4;
-    let run = a64_run(words, random.next(), &mut after, steps, &mut memory, base).unwrap();
+    let words = Words { bytes: words, address: random.next() };
+    let lent = Memory { bytes: &mut memory, base };
+    let run = a64_run(words, &mut after, steps, lent).unwrap();
     let ran = rv64_run(guest, &mut registers).unwrap();
     expected[slots + 8..slots + SLOTS].copy_from_slice(&registers.to_bytes()[8..]);
     let phrases = [

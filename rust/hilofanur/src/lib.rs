@@ -5,7 +5,7 @@
 //!
 //! ```
 //! use hilofanur::{a64_run, list, place, rv64_run, translate};
-//! use hilofanur::{A64State, End, EndKind, Guest, Host, Refusal, Registers};
+//! use hilofanur::{A64State, End, EndKind, Guest, Host, Memory, Refusal, Registers, Words};
 //!
 //! // c.li x10, -1 at 0x1000
 //! let guest = Guest { bytes: &[0x7d, 0x55], pc: 0x1000, limit: 64, ignore_ebreak: false };
@@ -16,9 +16,9 @@
 //!
 //! let mut store = vec![0; 4096];
 //! let placed = place(&mut store, 0, &output[..block.length])?;
-//! let words = &store[placed.start..placed.used];
+//! let words = Words { bytes: &store[placed.start..placed.used], address: 0x4_0000 };
 //!
-//! let listing = list(words)?;
+//! let listing = list(words.bytes)?;
 //! assert_eq!(listing.lines().count(), 8);
 //! assert_eq!(listing.lines().next(), Some("00000000 d29fffeb movz x11, #65535, lsl #0"));
 //! assert_eq!(listing.lines().last(), Some("0000001c d65f03c0 ret x30"));
@@ -27,7 +27,7 @@
 //! let mut slots = Registers::default().to_bytes();
 //! let mut state = A64State::default();
 //! state.x[0] = 0x8000;
-//! let run = a64_run(words, 0x4_0000, &mut state, 100, &mut slots, 0x8000)?;
+//! let run = a64_run(words, &mut state, 100, Memory { bytes: &mut slots, base: 0x8000 })?;
 //! assert_eq!((run.end, run.steps), (End::Returned, 8));
 //!
 //! // The ISA says the same of the guest.
@@ -58,31 +58,33 @@
 //! helper's work, and [`a64_run_from`] goes on:
 //!
 //! ```
-//! use hilofanur::{a64_run, a64_run_from, translate, A64State, End, EndKind, Guest, Host, Refusal};
+//! use hilofanur::{a64_run, a64_run_from, translate, A64State, End, EndKind, Guest, Host};
+//! use hilofanur::{Memory, Refusal, Words};
 //!
 //! // c.nop, then ld x10, 8(x11)
-//! let bytes = [0x01, 0x00, 0x03, 0xb5, 0x85, 0x00];
-//! let guest = Guest { bytes: &bytes, pc: 0x1000, limit: 64, ignore_ebreak: false };
+//! let code = [0x01, 0x00, 0x03, 0xb5, 0x85, 0x00];
+//! let guest = Guest { bytes: &code, pc: 0x1000, limit: 64, ignore_ebreak: false };
 //! let host = Host { slot_offset: 0, memory_helper: 0x10000, helper32: 0x20000, helper16: 0x30000 };
 //! let mut output = [0; hilofanur::LONGEST_BLOCK];
 //! let block = translate(&guest, &host, &mut output)?;
 //! assert_eq!((block.count, block.end_kind), (2, EndKind::Helper));
-//! let words = &output[..block.length];
+//! let words = Words { bytes: &output[..block.length], address: 0x4_0000 };
 //!
 //! // Memory is the slots, of which x11's holds 0x2000, and the 16 bytes below SP.
-//! let mut memory = [0; 256 + 16];
-//! memory[8 * 11..8 * 12].copy_from_slice(&0x2000_u64.to_le_bytes());
+//! let mut bytes = [0; 256 + 16];
+//! bytes[8 * 11..8 * 12].copy_from_slice(&0x2000_u64.to_le_bytes());
 //! let mut state = A64State { sp: 0x8110, ..A64State::default() };
 //! (state.x[0], state.x[30]) = (0x8000, 0x5555);
-//! let run = a64_run(words, 0x4_0000, &mut state, 100, &mut memory, 0x8000)?;
+//! let run = a64_run(words, &mut state, 100, Memory { bytes: &mut bytes, base: 0x8000 })?;
 //! assert_eq!((run.end, state.x[16], state.sp), (End::Called, 0x10000, 0x8100));
 //! // LD into x10, no value, the address, the PC.
 //! assert_eq!(state.x[3..8], [3, 10, 0, 0x2008, 0x1002]);
 //!
 //! // The helper's work: what is loaded goes into x10's slot; the next PC, one instruction done.
-//! memory[8 * 10..8 * 11].copy_from_slice(&77_u64.to_le_bytes());
+//! bytes[8 * 10..8 * 11].copy_from_slice(&77_u64.to_le_bytes());
 //! (state.x[0], state.x[1]) = (0x1006, 1);
-//! let run = a64_run_from(words, 0x4_0000, run.steps, &mut state, 100, &mut memory, 0x8000)?;
+//! let memory = Memory { bytes: &mut bytes, base: 0x8000 };
+//! let run = a64_run_from(words, run.steps, &mut state, 100, memory)?;
 //! assert_eq!((run.end, state.x[0], state.x[1]), (End::Returned, 0x1006, 2));
 //! assert_eq!((state.sp, state.x[30]), (0x8110, 0x5555));
 //! # Ok::<(), Refusal>(())
@@ -175,6 +177,24 @@ pub struct Rv64Run {
     pub next_pc: u64,
 }
 
+/// A block's words for an A64 run.
+#[derive(Clone, Copy, Debug)]
+pub struct Words<'a> {
+    /// Four little-endian bytes a word.
+    pub bytes: &'a [u8],
+    /// Where word 0 would stand; only X30 at a call depends on it.
+    pub address: u64,
+}
+
+/// The memory of an A64 run.
+#[derive(Debug)]
+pub struct Memory<'a> {
+    /// Its bytes; they end at 2^64 or below.
+    pub bytes: &'a mut [u8],
+    /// The address of the first one.
+    pub base: u64,
+}
+
 /// What an A64 run did.
 #[derive(Clone, Copy, Debug, PartialEq, Eq)]
 pub struct A64Run {
@@ -222,44 +242,41 @@ pub fn rv64_run(guest: &Guest, registers: &mut Registers) -> Result<Rv64Run, Ref
     Ok(Rv64Run { count: answer.count, next_pc: answer.next_pc })
 }
 
-/// A64 run: does the words of `block` on `state` and `memory`, whose first byte is at `base`.
+/// A64 run: does the words on `state` and `memory`.
 ///
-/// `address` is where the words would stand; only X30 at a call depends on it. For a block of Translate's a budget of
-/// as many steps as it has words is enough, to the call and again from it.
+/// For a block of Translate's a budget of as many steps as it has words is enough, to the call and again from it.
 ///
 /// # Errors
 /// Refusals 10 and 11.
 pub fn a64_run(
-    block: &[u8],
-    address: u64,
+    words: Words,
     state: &mut A64State,
     budget: u64,
-    memory: &mut [u8],
-    base: u64,
+    memory: Memory,
 ) -> Result<A64Run, Refusal> {
-    let mut bytes = state.to_bytes();
-    let answer = boundary::a64_run(block, address, &mut bytes, budget, memory, base);
-    a64_ran(answer, &bytes, state)
+    let (Words { bytes, address }, mut lent) = (words, state.to_bytes());
+    let Memory { bytes: memory, base } = memory;
+    let answer = boundary::a64_run(bytes, address, &mut lent, budget, memory, base);
+    a64_ran(answer, &lent, state)
 }
 
-/// A64 run from: goes on after a call, from the state that the caller gives, at the word of `block` numbered `first`,
-/// counted from 0. `address` stays that of word 0; the steps count from 0. Where `first` is at or beyond the number
-/// of words it ends as [`End::OffTheEnd`] with no step, whatever the budget.
+/// A64 run from: goes on after a call, from the state that the caller gives, at the word numbered `first`, counted
+/// from 0. The address stays that of word 0; the steps count from 0. Where `first` is at or beyond the number of
+/// words it ends as [`End::OffTheEnd`] with no step, whatever the budget.
 ///
 /// # Errors
 /// Refusals 10 and 11, whatever `first`.
 pub fn a64_run_from(
-    block: &[u8],
-    address: u64,
+    words: Words,
     first: u64,
     state: &mut A64State,
     budget: u64,
-    memory: &mut [u8],
-    base: u64,
+    memory: Memory,
 ) -> Result<A64Run, Refusal> {
-    let mut bytes = state.to_bytes();
-    let answer = boundary::a64_run_from(block, address, first, &mut bytes, budget, memory, base);
-    a64_ran(answer, &bytes, state)
+    let (Words { bytes, address }, mut lent) = (words, state.to_bytes());
+    let Memory { bytes: memory, base } = memory;
+    let answer = boundary::a64_run_from(bytes, address, first, &mut lent, budget, memory, base);
+    a64_ran(answer, &lent, state)
 }
 
 /// What a run answered, with the state that it left in `bytes`.

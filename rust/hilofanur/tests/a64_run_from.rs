@@ -1,8 +1,8 @@
 //! Document 02, No. 5: A64 run goes on after a call, at a word that the caller names; blocks that a helper ends.
 //! Words, arguments and steps worked out by hand.
 
-use hilofanur::{a64_run, a64_run_from, translate};
-use hilofanur::{A64Run, A64State, End, EndKind, Guest, Host, LONGEST_BLOCK};
+use hilofanur::{a64_run, a64_run_from, translate, LONGEST_BLOCK};
+use hilofanur::{A64Run, A64State, End, EndKind, Guest, Host, Memory, Refusal, Words};
 
 const HOST: Host =
     Host { slot_offset: 8, memory_helper: 0x10000, helper32: 0x20000, helper16: 0x30000 };
@@ -17,6 +17,17 @@ fn state(sp: u64) -> A64State {
     A64State { x: std::array::from_fn(|n| n as u64 + 0x100), sp, nzcv: 9 }
 }
 
+/// From the word numbered `first`, without memory.
+fn run_from(
+    (block, address): (&[u8], u64),
+    first: u64,
+    state: &mut A64State,
+    budget: u64,
+) -> Result<A64Run, Refusal> {
+    let none = Memory { bytes: &mut [], base: 0 };
+    a64_run_from(Words { bytes: block, address }, first, state, budget, none)
+}
+
 /// MOVZ X0, #0, MOVZ X1, #1, .., MOVZ X7, #7, RET: those from `first` on are done, as many as the budget has, and the
 /// steps count from 0.
 #[test]
@@ -25,7 +36,7 @@ fn begins_at_its_word() {
     words.push(0xD65F_03C0);
     for (first, budget) in (0..9).flat_map(|first| (0..11).map(move |budget| (first, budget))) {
         let (mut after, left) = (state(3), 9 - first);
-        let run = a64_run_from(&bytes(&words), 0, first, &mut after, budget, &mut [], 0);
+        let run = run_from((&bytes(&words), 0), first, &mut after, budget);
         let end = if budget < left { End::Spent } else { End::Returned };
         assert_eq!(run, Ok(A64Run { end, steps: budget.min(left) }), "{first} {budget}");
         let mut expected = state(3);
@@ -44,7 +55,7 @@ fn link_counts_from_word_0() {
     for address in [0, 4, 0x4000, 1 << 63, !0 - 31, !0 - 27, !0 - 26, !0 - 3, !0] {
         for first in 0..7 {
             let mut after = state(3);
-            let run = a64_run_from(&bytes(&words), address, first, &mut after, 9, &mut [], 0);
+            let run = run_from((&bytes(&words), address), first, &mut after, 9);
             assert_eq!(run, Ok(A64Run { end: End::Called, steps: 7 - first }));
             assert_eq!(after.x[30], address.wrapping_add(4 * 7), "{address:x} {first}");
         }
@@ -58,9 +69,9 @@ fn ends_after_its_word() {
     let block = bytes(&[0xD280_0001, 0xF940_0022, 0xD280_0001, 0, 0xD280_0001]);
     let rows = [(0, End::Fault), (2, End::Unreadable), (4, End::OffTheEnd)];
     for (first, end) in rows {
-        let run = a64_run_from(&block, 0, first, &mut state(3), 9, &mut [], 0);
+        let run = run_from((&block, 0), first, &mut state(3), 9);
         assert_eq!(run, Ok(A64Run { end, steps: 1 }));
-        let run = a64_run_from(&block, 0, first + 1, &mut state(3), 9, &mut [], 0);
+        let run = run_from((&block, 0), first + 1, &mut state(3), 9);
         assert_eq!(run, Ok(A64Run { end, steps: 0 }));
     }
 }
@@ -133,44 +144,40 @@ impl Row {
 
     /// With SP after the slots and 16 bytes, and `after` bytes of memory after SP.
     fn hold(&self, base: u64, after: usize, address: u64) {
-        let block = (&self.block()[..], address);
+        let block = &self.block();
+        let words = Words { bytes: block, address };
         let mut entry = state(base.wrapping_add(STACK as u64 + 16));
         entry.x[0] = base.wrapping_sub(HOST.slot_offset);
         let mut memory: Vec<u8> = (0..32).flat_map(|n| (0x1000_u64 * n).to_le_bytes()).collect();
         memory.extend(vec![0xA5; 16 + after]);
-        self.call(block, &entry, &mut memory, base);
-        self.go_on(block, &entry, &mut memory, base);
+        self.call(words, &entry, Memory { bytes: &mut memory, base });
+        self.go_on(words, &entry, Memory { bytes: &mut memory, base });
     }
 
     /// Up to the call.
-    fn call(&self, (block, address): (&[u8], u64), entry: &A64State, memory: &mut [u8], base: u64) {
+    fn call(&self, words: Words, entry: &A64State, Memory { bytes: memory, base }: Memory) {
         let (mut state, steps, number) = (*entry, self.steps[0], self.arguments.len());
         let mut expected = memory.to_vec();
         self.slots(&mut expected);
         expected[STACK..STACK + 8].copy_from_slice(&entry.x[30].to_le_bytes());
-        let run = a64_run(block, address, &mut state, steps, memory, base);
+        let run = a64_run(words, &mut state, steps, Memory { bytes: memory, base });
         assert_eq!(run, Ok(A64Run { end: End::Called, steps }));
         assert_eq!((state.x[16], &state.x[..number]), (self.helper, self.arguments));
         assert_eq!(state.sp, entry.sp.wrapping_sub(16));
-        assert_eq!(state.x[30], address.wrapping_add(4 * steps));
+        assert_eq!(state.x[30], words.address.wrapping_add(4 * steps));
         assert_eq!((&state.x[18..30], memory), (&entry.x[18..30], &mut expected[..]));
     }
 
     /// After it, where the helper has changed all that it may.
-    fn go_on(
-        &self,
-        (block, address): (&[u8], u64),
-        entry: &A64State,
-        memory: &mut [u8],
-        base: u64,
-    ) {
+    fn go_on(&self, words: Words, entry: &A64State, Memory { bytes: memory, base }: Memory) {
         let (slots, rest) = memory.split_at_mut(STACK);
         slots.iter_mut().chain(&mut rest[8..]).for_each(|byte| *byte = !*byte);
         let mut expected = memory.to_vec();
         let x: [u64; 31] = std::array::from_fn(|n| !(n as u64));
         let mut state = A64State { x, sp: entry.sp.wrapping_sub(16), nzcv: u64::MAX };
         let [first, steps] = self.steps;
-        let run = a64_run_from(block, address, first, &mut state, steps, memory, base);
+        let lent = Memory { bytes: memory, base };
+        let run = a64_run_from(words, first, &mut state, steps, lent);
         assert_eq!(run, Ok(A64Run { end: End::Returned, steps }));
         let count = x[1].wrapping_add(u64::from(self.count) - 1);
         assert_eq!((state.x[0], state.x[1]), (x[0], count));

@@ -2,7 +2,7 @@
 //! longest block. What the index allocates: its bytes, and its calls nothing. The A64 runs allocate nothing.
 
 use hilofanur::{a64_run, a64_run_from, list, list_into, A64Run, A64State, End, Found, Index, Key};
-use hilofanur::{Refusal, INDEX_BYTES, LONGEST_LINE};
+use hilofanur::{Memory, Refusal, Words, INDEX_BYTES, LONGEST_LINE};
 use std::alloc::{GlobalAlloc, Layout, System};
 use std::cell::Cell;
 
@@ -87,9 +87,11 @@ fn a64_runs() {
     let block = 0xD65F_03C0_u32.to_le_bytes().repeat(WORDS);
     let (words, mut state) = (WORDS as u64, A64State::default());
     let returned = (0, Ok(A64Run { end: End::Returned, steps: 1 }));
-    assert_eq!(allocated(|| a64_run(&block, 0, &mut state, 9, &mut [], 0)), returned);
-    let mut from = |block: &[u8], first, memory: &mut [u8], base| {
-        allocated(|| a64_run_from(block, 0, first, &mut state, 9, memory, base))
+    let of = |bytes| Words { bytes, address: 0 };
+    let none = Memory { bytes: &mut [], base: 0 };
+    assert_eq!(allocated(|| a64_run(of(&block), &mut state, 9, none)), returned);
+    let mut from = |block, first, bytes: &mut [u8], base| {
+        allocated(|| a64_run_from(of(block), first, &mut state, 9, Memory { bytes, base }))
     };
     assert_eq!(from(&block, words - 1, &mut [], 0), returned);
     let end = (0, Ok(A64Run { end: End::OffTheEnd, steps: 0 }));

@@ -3,7 +3,7 @@
 use draw::words;
 use hilofanur::boundary::{self, Rv64RunAnswer, TranslateAnswer};
 use hilofanur::EndKind::{self, Drop, Helper, Plain};
-use hilofanur::{a64_run, rv64_run, A64State, End, Guest, Host, Refusal, Registers};
+use hilofanur::{a64_run, rv64_run, A64State, End, Guest, Host, Memory, Refusal, Registers, Words};
 
 const HOST: Host =
     Host { slot_offset: 0, memory_helper: 0x10000, helper32: 0x20000, helper16: 0x30000 };
@@ -79,7 +79,9 @@ impl Row {
 
         let block: Vec<u8> = self.words.iter().flat_map(|word| word.to_le_bytes()).collect();
         let (mut state, budget) = (A64State::default(), self.words.len() as u64);
-        let run = a64_run(&block, 0x4000, &mut state, budget, &mut slots, 0).unwrap();
+        let words = Words { bytes: &block, address: 0x4000 };
+        let memory = Memory { bytes: &mut slots, base: 0 };
+        let run = a64_run(words, &mut state, budget, memory).unwrap();
         assert_eq!((run.end, run.steps), (End::Returned, budget), "{guest:x?}");
         assert_eq!((state.x[0], state.x[1]), (self.next_pc, self.count.into()), "{guest:x?}");
         assert_eq!(slots, registers.to_bytes(), "{guest:x?}");

@@ -5,8 +5,8 @@
 
 use draw::class::instruction;
 use draw::forms::HELPER_KINDS;
-use hilofanur::{a64_run, a64_run_from, rv64_run, translate};
-use hilofanur::{A64Run, A64State, End, EndKind, Guest, Host, Refusal, Registers, LONGEST_BLOCK};
+use hilofanur::{a64_run, a64_run_from, rv64_run, translate, LONGEST_BLOCK};
+use hilofanur::{A64Run, A64State, End, EndKind, Guest, Host, Memory, Refusal, Registers, Words};
 use steppers::records::{defaults, Reader};
 
 const HELPERS: &[u8] = include_bytes!("data/helpers.bin");
@@ -88,11 +88,12 @@ impl Case {
     /// Runs the words from the one numbered `first` on, as the machine did.
     fn run(&self, first: u64, from: &Machine) -> (Result<A64Run, Refusal>, Machine) {
         let Machine { mut state, mut memory } = from.clone();
-        let Case { words, address, base, .. } = self;
-        let budget = words.len() as u64 / 4 - first;
+        let words = Words { bytes: &self.words, address: self.address };
+        let lent = Memory { bytes: &mut memory, base: self.base };
+        let budget = self.words.len() as u64 / 4 - first;
         let run = match first {
-            0 => a64_run(words, *address, &mut state, budget, &mut memory, *base),
-            _ => a64_run_from(words, *address, first, &mut state, budget, &mut memory, *base),
+            0 => a64_run(words, &mut state, budget, lent),
+            _ => a64_run_from(words, first, &mut state, budget, lent),
         };
         (run, Machine { state, memory })
     }

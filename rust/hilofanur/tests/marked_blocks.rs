@@ -3,7 +3,7 @@
 use draw::marked::{self, Found, Row};
 use draw::{words, Case};
 use hilofanur::{a64_run, a64_run_from, boundary, translate};
-use hilofanur::{A64Run, A64State, End, Guest, Host, Refusal, Registers};
+use hilofanur::{A64Run, A64State, End, Guest, Host, Memory, Refusal, Registers, Words};
 
 fn question(row: &Row) -> (Guest<'_>, Host) {
     let Case { guest, pc, limit, slot_offset, helpers, .. } = &row.case;
@@ -41,6 +41,11 @@ fn refused_rows_by_name() {
     }
 }
 
+/// The slots as a run's memory.
+fn lend(bytes: &mut [u8; 256]) -> Memory<'_> {
+    Memory { bytes, base: 0x8000 }
+}
+
 /// Each block run as a whole, and cut after one of its words and gone on with there; of long ones, after every 41st.
 #[test]
 fn rows_in_two_parts() {
@@ -48,19 +53,20 @@ fn rows_in_two_parts() {
         let (guest, host) = question(&row);
         let mut output = vec![0; row.case.room];
         let Ok(block) = translate(&guest, &host, &mut output) else { continue };
-        let (words, number) = (&output[..block.length], block.length as u64 / 4);
+        let words = Words { bytes: &output[..block.length], address: 0 };
+        let number = block.length as u64 / 4;
         let slots = Registers { x: std::array::from_fn(|n| n as u64 * 3) }.to_bytes();
         let mut entry = A64State { x: std::array::from_fn(|n| !(n as u64)), sp: 5, nzcv: 6 };
         entry.x[0] = 0x8000 - host.slot_offset;
         let (mut whole, mut memory) = (entry, slots);
-        let run = a64_run(words, 0, &mut whole, number, &mut memory, 0x8000);
+        let run = a64_run(words, &mut whole, number, lend(&mut memory));
         assert_eq!(run, Ok(A64Run { end: End::Returned, steps: number }), "{}", row.name);
         for first in (0..number).step_by(if number < 41 { 1 } else { 41 }) {
             let (mut state, mut lent) = (entry, slots);
-            let cut = a64_run(words, 0, &mut state, first, &mut lent, 0x8000);
+            let cut = a64_run(words, &mut state, first, lend(&mut lent));
             assert_eq!(cut, Ok(A64Run { end: End::Spent, steps: first }), "{}", row.name);
             let left = number - first;
-            let rest = a64_run_from(words, 0, first, &mut state, left, &mut lent, 0x8000);
+            let rest = a64_run_from(words, first, &mut state, left, lend(&mut lent));
             assert_eq!(rest, Ok(A64Run { end: End::Returned, steps: left }), "{}", row.name);
             assert_eq!((state, lent), (whole, memory), "{} {first}", row.name);
         }

@@ -7,7 +7,7 @@ use hilofanur::boundary::{self, A64RunAnswer, ListAnswer, PlaceAnswer};
 use hilofanur::boundary::{IndexLookupAnswer, IndexPlaceAnswer, Rv64RunAnswer, TranslateAnswer};
 use hilofanur::{a64_run, a64_run_from, list, list_into, place, rv64_run, translate};
 use hilofanur::{A64Run, A64State, End, EndKind, Guest, Host, Index, Key};
-use hilofanur::{Found, ListRefused, Placed, Refusal, Registers, INDEX_BYTES};
+use hilofanur::{Found, ListRefused, Memory, Placed, Refusal, Registers, Words, INDEX_BYTES};
 
 const HOST: Host =
     Host { slot_offset: 0, memory_helper: 0x10000, helper32: 0x20000, helper16: 0x30000 };
@@ -145,13 +145,15 @@ fn refuse_a64(number: u32, block: &[u8], memory: usize, base: u64) {
     let mut bytes = state.to_bytes();
     let expected = A64RunAnswer { refusal: number, ..A64RunAnswer::default() };
     let refusal = Err(Refusal::from_number(number).unwrap());
+    let words = Words { bytes: block, address: 0 };
     let answer = boundary::a64_run(block, 0, &mut bytes, 9, &mut lent, base);
     assert_eq!(answer, expected, "{block:x?} {memory} {base:x}");
-    assert_eq!(a64_run(block, 0, &mut state, 9, &mut lent, base), refusal);
+    assert_eq!(a64_run(words, &mut state, 9, Memory { bytes: &mut lent, base }), refusal);
     for (first, budget) in FIRSTS.into_iter().flat_map(|first| [(first, 0), (first, 9)]) {
         let answer = boundary::a64_run_from(block, 0, first, &mut bytes, budget, &mut lent, base);
         assert_eq!(answer, expected, "{block:x?} {first} {memory} {base:x}");
-        assert_eq!(a64_run_from(block, 0, first, &mut state, budget, &mut lent, base), refusal);
+        let memory = Memory { bytes: &mut lent, base };
+        assert_eq!(a64_run_from(words, first, &mut state, budget, memory), refusal);
     }
     assert_eq!((bytes, state), (a64_state().to_bytes(), a64_state()));
     assert_eq!(lent, vec![FILL; memory]);
@@ -168,7 +170,8 @@ fn a64_run_by_number() {
     refuse_a64(11, &block[..4], 16, u64::MAX - 14);
     refuse_a64(11, &[], 2, u64::MAX);
     let mut state = A64State { nzcv: u64::MAX, ..A64State::default() };
-    let run = a64_run(&[], 0, &mut state, 9, &mut [FILL; 16], u64::MAX - 15).unwrap();
+    let memory = Memory { bytes: &mut [FILL; 16], base: u64::MAX - 15 };
+    let run = a64_run(Words { bytes: &[], address: 0 }, &mut state, 9, memory).unwrap();
     assert_eq!((run.end, run.steps, state.nzcv), (End::OffTheEnd, 0, 15));
 }
 
@@ -176,19 +179,20 @@ fn a64_run_by_number() {
 #[test]
 fn a64_run_from_accepts_the_edges() {
     let after = A64State { nzcv: 10, ..a64_state() };
-    for (words, first) in (0..3).flat_map(|words| FIRSTS.map(|first| (words, first))) {
-        let block = 0xD65F_03C0_u32.to_le_bytes().repeat(words);
+    for (number, first) in (0..3).flat_map(|number| FIRSTS.map(|first| (number, first))) {
+        let block = 0xD65F_03C0_u32.to_le_bytes().repeat(number);
         for budget in [0, 1, 9, u64::MAX] {
             let (mut state, mut memory) = (a64_state(), [FILL; 16]);
-            let top = u64::MAX - 15;
-            let run = a64_run_from(&block, 0, first, &mut state, budget, &mut memory, top);
+            let lent = Memory { bytes: &mut memory, base: u64::MAX - 15 };
+            let words = Words { bytes: &block, address: 0 };
+            let run = a64_run_from(words, first, &mut state, budget, lent);
             let (end, steps) = match budget {
-                _ if first >= words as u64 => (End::OffTheEnd, 0),
+                _ if first >= number as u64 => (End::OffTheEnd, 0),
                 0 => (End::Spent, 0),
                 _ => (End::Returned, 1),
             };
-            assert_eq!(run, Ok(A64Run { end, steps }), "{words} {first} {budget}");
-            assert_eq!((state, memory), (after, [FILL; 16]), "{words} {first} {budget}");
+            assert_eq!(run, Ok(A64Run { end, steps }), "{number} {first} {budget}");
+            assert_eq!((state, memory), (after, [FILL; 16]), "{number} {first} {budget}");
         }
     }
 }

@@ -5,7 +5,7 @@ use draw::forms::{self, encode};
 use draw::values::{registers, value};
 use draw::{words, Random};
 use hilofanur::{a64_run, rv64_run, translate, LONGEST_BLOCK};
-use hilofanur::{A64State, End, EndKind, Guest, Host, Registers};
+use hilofanur::{A64State, End, EndKind, Guest, Host, Memory, Registers, Words};
 
 const SLOTS: u64 = 0x8000;
 /// The slots, and 16 bytes for the stack.
@@ -53,7 +53,9 @@ fn run(block: &[u8], end: EndKind, slots: &Registers, slot_offset: u64) -> (Vec<
     let sp = SLOTS + SIZE as u64;
     let mut state = A64State { x: std::array::from_fn(|n| !(n as u64)), sp, nzcv: 5 };
     state.x[0] = SLOTS.wrapping_sub(slot_offset);
-    let run = a64_run(block, 0x4000, &mut state, 2_000, &mut memory, SLOTS).unwrap();
+    let words = Words { bytes: block, address: 0x4000 };
+    let lent = Memory { bytes: &mut memory, base: SLOTS };
+    let run = a64_run(words, &mut state, 2_000, lent).unwrap();
     assert_eq!(run.end, if end == EndKind::Helper { End::Called } else { End::Returned });
     let numbers = [&state.x[..9], &[state.x[16]]].concat();
     (numbers, Registers::from_bytes(memory.first_chunk().unwrap()))

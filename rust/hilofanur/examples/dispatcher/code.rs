@@ -2,7 +2,7 @@
 //! run once, from a store of their own.
 
 use hilofanur::{place, translate, Block, EndKind, Guest, Host};
-use hilofanur::{Index, Key, Refusal, LONGEST_BLOCK};
+use hilofanur::{Index, Key, Refusal, Words, LONGEST_BLOCK};
 use std::collections::BTreeSet;
 
 /// The addresses on the host of the index's store and of the one for a block that is run once.
@@ -126,11 +126,12 @@ impl Code {
         self.placed - self.emptied - self.kept()
     }
 
-    /// The words of a block, and their address.
-    pub fn words(&self, block: &Ready) -> (&[u8], u64) {
+    /// The words of a block.
+    pub fn words(&self, block: &Ready) -> Words<'_> {
         let (store, address) =
             if block.once { (&self.once[..], ONCE) } else { (&self.store[..], ADDRESS) };
-        (&store[block.start..][..block.length], address + block.start as u64)
+        let bytes = &store[block.start..][..block.length];
+        Words { bytes, address: address + block.start as u64 }
     }
 }
 
@@ -147,9 +148,9 @@ mod tests {
     /// Whether the block was translated, its count, its words' number and address.
     fn ask(code: &mut Code, bytes: &[u8], pc: u64) -> (bool, u32, usize, u64) {
         let ready = code.block(&guest(bytes, pc)).unwrap();
-        let (words, address) = code.words(&ready);
-        assert!(words.ends_with(&0xD65F_03C0_u32.to_le_bytes()));
-        (ready.new.is_some(), ready.count, words.len() / 4, address)
+        let Words { bytes, address } = code.words(&ready);
+        assert!(bytes.ends_with(&0xD65F_03C0_u32.to_le_bytes()));
+        (ready.new.is_some(), ready.count, bytes.len() / 4, address)
     }
 
     /// C.NOP, two times C.NOP, and C.NOP with FENCE.I after it: placed are the first two, once each, and after

@@ -61,7 +61,7 @@ impl<'a> Run<'a> {
             ("X18 to X29", state.x[18..30] == entry.x[18..30]),
         ]);
         wrong.extend(if self.called() {
-            let link = self.block.address.wrapping_add(4 * self.ended.steps);
+            let link = self.block.words.address.wrapping_add(4 * self.ended.steps);
             self.wrong(&[
                 ("count", self.count + 1 == count),
                 ("SP", state.sp == SP - 16),
@@ -153,7 +153,7 @@ mod tests {
     use super::super::host::HostSide;
     use super::super::memory::Memory;
     use super::*;
-    use hilofanur::{translate, LONGEST_BLOCK};
+    use hilofanur::{translate, Words, LONGEST_BLOCK};
 
     /// What is found after the words of a block have been changed: each pair puts a word at an index.
     fn differences(bytes: &[u8], changes: &[(usize, u32)]) -> String {
@@ -164,8 +164,8 @@ mod tests {
             output[4 * index..][..4].copy_from_slice(&word.to_le_bytes());
         }
         let registers = Registers { x: std::array::from_fn(|n| 8 * n as u64) };
-        let words = &output[..block.length];
-        let running = Running { guest, count: block.count, words, address: 0x4000 };
+        let words = Words { bytes: &output[..block.length], address: 0x4000 };
+        let running = Running { guest, count: block.count, words };
         let mut memory = Memory { base: 0, bytes: vec![0; 256] };
         let done = HostSide::new().run(&running, &registers, &mut memory).unwrap();
         let differences: Vec<_> =

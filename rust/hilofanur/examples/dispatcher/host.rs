@@ -6,7 +6,7 @@ use super::compare::Run;
 use super::helper::help;
 use super::memory::{Access, Memory};
 use draw::Random;
-use hilofanur::{a64_run, a64_run_from, A64Run, A64State, End, Guest, Registers};
+use hilofanur::{a64_run, a64_run_from, A64Run, A64State, End, Guest, Registers, Words};
 use std::ops::Range;
 
 pub const BASE: u64 = 0x7FFF_0000_0000;
@@ -25,12 +25,11 @@ pub struct Machine {
     pub memory: [u8; SIZE],
 }
 
-/// A block that is run: its guest, its count, its words and their address.
+/// A block that is run: its guest, its count, its words.
 pub struct Running<'a> {
     pub guest: &'a Guest<'a>,
     pub count: u32,
-    pub words: &'a [u8],
-    pub address: u64,
+    pub words: Words<'a>,
 }
 
 /// What a block's words did, and what differs from the RV64 run.
@@ -53,7 +52,7 @@ pub struct HostSide {
 impl Running<'_> {
     /// The number of its words.
     pub fn number(&self) -> u64 {
-        self.words.len() as u64 / 4
+        self.words.bytes.len() as u64 / 4
     }
 }
 
@@ -72,12 +71,12 @@ impl Machine {
 
     /// Does the block's words from the one numbered `first` on.
     fn run(&mut self, block: &Running, first: u64) -> Result<A64Run, String> {
-        let Running { guest, words, address, .. } = *block;
-        let (state, memory) = (&mut self.state, &mut self.memory);
+        let Running { guest, words, .. } = *block;
+        let memory = hilofanur::Memory { bytes: &mut self.memory, base: BASE };
         let left = block.number() - first;
         let run = match first {
-            0 => a64_run(words, address, state, left, memory, BASE),
-            _ => a64_run_from(words, address, first, state, left, memory, BASE),
+            0 => a64_run(words, &mut self.state, left, memory),
+            _ => a64_run_from(words, first, &mut self.state, left, memory),
         };
         run.map_err(|refusal| format!("A64 run at {:x}: {refusal}", guest.pc))
     }

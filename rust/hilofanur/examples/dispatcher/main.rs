@@ -95,10 +95,10 @@ impl Dispatcher {
             let guest = Guest { bytes: &bytes, pc: self.pc, limit: LIMIT, ignore_ebreak: false };
             match self.code.block(&guest) {
                 Ok(ready) => {
-                    let (words, address) = self.code.words(&ready);
-                    self.tell(ready.new, words)?;
+                    let words = self.code.words(&ready);
+                    self.tell(ready.new, words.bytes)?;
                     let (guest, count) = (&guest, ready.count);
-                    let block = Running { guest, count, words, address };
+                    let block = Running { guest, count, words };
                     let done = self.host.run(&block, &self.registers, &mut self.memory)?;
                     self.take(count, done)?;
                 }
