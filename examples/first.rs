@@ -33,12 +33,10 @@ fn main() -> Result<(), Refusal> {
     print!("run: {ended} after {} words, a0 = {a0}", run.steps);
     println!(", next PC {:x}, {} instructions", state.x[0], state.x[1]);
 
-    // For years: an index of blocks and its store.
-    let (mut index, mut store) = (Index::new(), vec![0; 1 << 16]);
-    let key = Key { space: 0, pc: PC };
-    let start = index.place(&mut store, key, block.count as u8, words.bytes)?;
-    let found = index.lookup(key)?;
-    let same = &store[found.start..][..found.length] == words.bytes;
+    // For years: an index of blocks, with its store.
+    let (mut index, key) = (Index::new(1 << 16), Key { space: 0, pc: PC });
+    let start = index.place(key, block.count as u8, words.bytes)?;
+    let same = index.get(key).is_some_and(|found| found.code == words.bytes);
     println!(
         "placed at {start} and found: {}",
         if same { "the same words" } else { "NOT THE SAME" }

@@ -1,41 +1,14 @@
-//! On AArch64: a store whose words the processor runs, and the jump.
-//!
-//! ```
-//! use hilofanur::{translate, ExecutableStore, Guest, Helper, Host, Index, Key, MemoryHelper, Next, Registers};
-//!
-//! extern "C" fn memory(_: u64, _: u64, _: u64, _: u64, _: u64, _: u64, _: u64, pc: u64) -> Next {
-//!     Next { pc, count: 0 }
-//! }
-//! extern "C" fn other(_: u64, _: u64, _: u64, _: u64, _: u64, _: u64, pc: u64) -> Next {
-//!     Next { pc, count: 0 }
-//! }
-//!
-//! // c.li x10, -1 at 0x1000
-//! let guest = Guest { bytes: &[0x7d, 0x55], pc: 0x1000, limit: 64, ignore_ebreak: false };
-//! let host = Host::calling(0, memory, other, other);
-//! let mut output = [0; hilofanur::LONGEST_BLOCK];
-//! let block = translate(&guest, &host, &mut output)?;
-//!
-//! let (mut index, mut store) = (Index::new(), ExecutableStore::new(1 << 20)?);
-//! let mut open = store.open()?;
-//! let start = index.place(&mut open, Key { space: 0, pc: 0x1000 }, 1, &output[..block.length])?;
-//! open.close(start..start + block.length)?;
-//!
-//! let mut registers = Registers::default();
-//! // SAFETY: a whole block of Translate's stands there, which calls no helper; X0 leads to the slots.
-//! let next = unsafe { store.call(start, registers.x.as_mut_ptr().cast(), [0; 5]) };
-//! assert_eq!((next, registers.x[10]), (Next { pc: 0x1002, count: 1 }, u64::MAX));
-//! # Ok::<(), Box<dyn std::error::Error>>(())
-//! ```
+//! On AArch64: a store whose words the processor runs, an index over it, and the jump.
 
 #![allow(unsafe_code)]
 
-use crate::Host;
+use crate::{accepted, boundary, Found, Host, Index, Key, Refusal};
 use std::arch::asm;
+use std::error::Error;
 use std::ffi::{c_int, c_void};
 use std::ops::{Deref, DerefMut, Range};
 use std::ptr::{self, NonNull};
-use std::{io, mem, slice};
+use std::{fmt, io, mem, slice};
 
 /// What a block and a helper return, in X0 and X1.
 #[repr(C)]
@@ -75,7 +48,8 @@ impl Host {
     }
 }
 
-/// A store of words that is writable or executable, never both. It owns its mapping.
+/// A store of words that is writable or executable, never both. It owns its mapping. [`Index::executable`] has one;
+/// by itself it is for blocks that no index has, such as one that FENCE.I ends.
 #[derive(Debug)]
 pub struct ExecutableStore {
     first: NonNull<u8>,
@@ -223,6 +197,119 @@ impl Drop for OpenStore<'_> {
         let _ = self.store.protect(READ | EXECUTE);
     }
 }
+
+impl Index<ExecutableStore> {
+    /// An empty index with an executable store of so many bytes.
+    ///
+    /// ```
+    /// use hilofanur::{translate, Guest, Host, Index, Key, Next, Registers};
+    ///
+    /// extern "C" fn memory(_: u64, _: u64, _: u64, _: u64, _: u64, _: u64, _: u64, pc: u64) -> Next {
+    ///     Next { pc, count: 0 }
+    /// }
+    /// extern "C" fn other(_: u64, _: u64, _: u64, _: u64, _: u64, _: u64, pc: u64) -> Next {
+    ///     Next { pc, count: 0 }
+    /// }
+    ///
+    /// // c.li x10, -1 at 0x1000
+    /// let guest = Guest { bytes: &[0x7d, 0x55], pc: 0x1000, limit: 64, ignore_ebreak: false };
+    /// let host = Host::calling(0, memory, other, other);
+    /// let mut output = [0; hilofanur::LONGEST_BLOCK];
+    /// let block = translate(&guest, &host, &mut output)?;
+    ///
+    /// let (mut index, key) = (Index::executable(1 << 20)?, Key { space: 0, pc: 0x1000 });
+    /// index.place(key, 1, &output[..block.length])?;
+    /// let found = index.get(key).expect("it was placed");
+    ///
+    /// let mut registers = Registers::default();
+    /// // SAFETY: a whole block of Translate's, which calls no helper; X0 leads to the slots.
+    /// let next = unsafe { index.call(&found, registers.x.as_mut_ptr().cast(), [0; 5]) };
+    /// assert_eq!((next, registers.x[10]), (Next { pc: 0x1002, count: 1 }, u64::MAX));
+    /// # Ok::<(), Box<dyn std::error::Error>>(())
+    /// ```
+    ///
+    /// Nobody else opens the store:
+    ///
+    /// ```compile_fail,E0596
+    /// let index = hilofanur::Index::executable(1 << 20).unwrap();
+    /// let open = index.store().open();
+    /// ```
+    ///
+    /// # Errors
+    /// Those of `mmap`, for a length of 0 too.
+    pub fn executable(length: usize) -> io::Result<Index<ExecutableStore>> {
+        Ok(Index::over(ExecutableStore::new(length)?))
+    }
+
+    /// Places `code` in the store, under a key, so that it can be run; where it starts. Where it goes and what is
+    /// dropped is as with plain bytes.
+    ///
+    /// # Errors
+    /// Refusal 15, or what `mprotect` answered; then the index is empty.
+    pub fn place(&mut self, key: Key, count: u8, code: &[u8]) -> Result<usize, PlaceError> {
+        let placed = self.place_and_close(key, count, code);
+        // The store may not be executable, or the new words not ones that can be run.
+        if let Err(PlaceError::Store(_)) = placed {
+            self.empty();
+        }
+        placed
+    }
+
+    fn place_and_close(&mut self, key: Key, count: u8, code: &[u8]) -> Result<usize, PlaceError> {
+        let mut open = self.store.open()?;
+        let answer = boundary::index_place(&mut self.bytes, &mut open, key, count, code);
+        let (start, refused) = (answer.start as usize, accepted(answer.refusal as u32));
+        open.close(if refused.is_ok() { start..start + code.len() } else { 0..0 })?;
+        refused?;
+        Ok(start)
+    }
+
+    /// Jumps to a block, with X0 and the numbers that a helper gets; what it returns.
+    ///
+    /// # Safety
+    /// - [`Index::get`] of this index answered `block`, and what was placed is a whole block that
+    ///   [`crate::translate`] wrote. A thread that did not place it itself has executed an ISB since.
+    /// - With the block's slot offset, `x0` leads to 32 slots of eight bytes, aligned to 8, which no other thread
+    ///   accesses during the call and no borrow covers.
+    /// - If the block ends by a helper, its address is one of such a function's ([`Host::calling`]), which may be
+    ///   called with `arguments`. No panic passes through the block.
+    pub unsafe fn call(&self, block: &Found, x0: *mut u8, arguments: [u64; 5]) -> Next {
+        // SAFETY: the caller's promises; the block was closed over as it was placed, and stands while it is borrowed.
+        unsafe { self.store.call(block.start, x0, arguments) }
+    }
+}
+
+/// Why a block was not placed in an executable store.
+#[derive(Debug)]
+pub enum PlaceError {
+    /// The index refused it; index and store are as they were.
+    Refused(Refusal),
+    /// The store could not be made writable or executable; the index is empty.
+    Store(io::Error),
+}
+
+impl From<Refusal> for PlaceError {
+    fn from(refusal: Refusal) -> PlaceError {
+        PlaceError::Refused(refusal)
+    }
+}
+
+impl From<io::Error> for PlaceError {
+    fn from(error: io::Error) -> PlaceError {
+        PlaceError::Store(error)
+    }
+}
+
+impl fmt::Display for PlaceError {
+    fn fmt(&self, f: &mut fmt::Formatter) -> fmt::Result {
+        match self {
+            PlaceError::Refused(refusal) => write!(f, "{refusal}"),
+            PlaceError::Store(error) => write!(f, "the executable store: {error}"),
+        }
+    }
+}
+
+impl Error for PlaceError {}
 
 /// Cleans the data cache and invalidates the instruction cache over these addresses (the Arm manual, 'Synchronization
 /// and coherency issues between data and instruction accesses'). CTR_EL0 has the line sizes, as powers of two of

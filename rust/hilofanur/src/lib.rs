@@ -53,9 +53,9 @@
 //!
 //! A block that a helper ends calls it, with slots 1 to 31 the registers before its instruction. The helper returns
 //! with X0 the next guest PC and X1 the instructions that it did; the block then returns with that X0, and with that
-//! X1 plus its count less one. On AArch64 Linux `Host::calling` takes helpers, `ExecutableStore` has words that the
-//! processor runs, and its `call` jumps. [`a64_run`] ends such a block as [`End::Called`]; the caller does the
-//! helper's work, and [`a64_run_from`] goes on:
+//! X1 plus its count less one. On AArch64 Linux `Host::calling` takes helpers, `Index::executable` has a store of
+//! words that the processor runs, and its `call` jumps. [`a64_run`] ends such a block as [`End::Called`]; the caller
+//! does the helper's work, and [`a64_run_from`] goes on:
 //!
 //! ```
 //! use hilofanur::{a64_run, a64_run_from, translate, A64State, End, EndKind, Guest, Host};
@@ -108,7 +108,7 @@ mod state;
 
 pub use index::{Found, Index, Key};
 #[cfg(all(target_arch = "aarch64", target_os = "linux"))]
-pub use jump::{ExecutableStore, Helper, MemoryHelper, Next, OpenStore};
+pub use jump::{ExecutableStore, Helper, MemoryHelper, Next, OpenStore, PlaceError};
 pub use refusal::{ListRefused, Refusal};
 pub use state::{A64State, End, EndKind, Registers};
 

@@ -45,7 +45,7 @@ pub enum Refusal {
     ListingShort = 14,
     /// Index: the code's length is zero, not a multiple of 4 or beyond the store.
     CodeLength = 15,
-    /// Index: no block is under this key.
+    /// Index: no block is under this key; [`crate::Index::get`] answers `None` then.
     NoBlock = 16,
 }
 

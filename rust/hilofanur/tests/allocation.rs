@@ -1,5 +1,6 @@
 //! What the listing allocates: `list_into` nothing, `list` its text alone, and nothing where it refuses more than the
-//! longest block. What the index allocates: its bytes, and its calls nothing. The A64 runs allocate nothing.
+//! longest block. What the index allocates: its bytes and its store's, and its calls nothing. The A64 runs allocate
+//! nothing.
 
 use hilofanur::{a64_run, a64_run_from, list, list_into, A64Run, A64State, End, Found, Index, Key};
 use hilofanur::{Memory, Refusal, Words, INDEX_BYTES, LONGEST_LINE};
@@ -64,22 +65,24 @@ fn listing() {
 /// More placings than the index has entries.
 #[test]
 fn index() {
-    let mut store = [0; 4_000];
-    let (bytes, mut index) = allocated(Index::new);
-    assert_eq!(bytes, INDEX_BYTES);
+    let (bytes, mut index) = allocated(|| Index::new(4_000));
+    assert_eq!(bytes, INDEX_BYTES + 4_000);
     for pc in 0..2_000 {
         let key = Key { space: 1, pc };
-        let (bytes, placed) = allocated(|| index.place(&mut store, key, 1, &[1; 4]));
+        let (bytes, placed) = allocated(|| index.place(key, 1, &[1; 4]));
         let start = placed.unwrap();
         assert_eq!(bytes, 0);
-        let found = Ok(Found { start, length: 4, count: 1 });
-        assert_eq!(allocated(|| index.lookup(key)), (0, found));
+        let found = Some(Found { start, code: &[1; 4], count: 1 });
+        assert_eq!(allocated(|| index.get(key)), (0, found));
     }
     let key = Key { space: 0, pc: 0 };
-    assert_eq!(allocated(|| index.lookup(key)), (0, Err(Refusal::NoBlock)));
+    assert_eq!(allocated(|| index.get(key)), (0, None));
     let refused = (0, Err(Refusal::CodeLength));
-    assert_eq!(allocated(|| index.place(&mut store, key, 1, &[1; 5])), refused);
+    assert_eq!(allocated(|| index.place(key, 1, &[1; 5])), refused);
     assert_eq!(allocated(|| index.empty()), (0, ()));
+    let store = index.store().clone();
+    let (bytes, copy) = allocated(|| Index::from_saved(index.saved(), store));
+    assert_eq!((bytes, allocated(|| copy.get(key))), (INDEX_BYTES, (0, None)));
 }
 
 #[test]

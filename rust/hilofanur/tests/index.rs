@@ -1,27 +1,31 @@
-//! The index over several calls, worked out by hand: where blocks go, which are dropped, what a lookup finds.
+//! The index over several calls, worked out by hand: where blocks go, which are dropped, what is found. An index from
+//! saved bytes, and from bytes that none ever had.
 
 use draw::Random;
-use hilofanur::{Found, Index, Key, Refusal};
+use hilofanur::{Found, Index, Key, Refusal, INDEX_BYTES};
 use std::collections::{BTreeMap, HashMap};
 
-/// An index with its store, and what was placed last under each key: count and code.
+/// What a store holds before a block is placed.
+const FILL: u8 = 0xA5;
+
+/// An index, and what was placed last under each key: count and code.
 struct Life {
     index: Index,
-    store: Vec<u8>,
     placed: BTreeMap<(u64, u64), (u8, Vec<u8>)>,
     random: Random,
 }
 
 impl Life {
     fn new(size: usize) -> Life {
-        let (index, store) = (Index::new(), vec![0xA5; size]);
-        Life { index, store, placed: BTreeMap::new(), random: Random(1) }
+        let mut index = Index::from_saved(&[FILL; INDEX_BYTES], vec![FILL; size].into());
+        index.empty();
+        Life { index, placed: BTreeMap::new(), random: Random(1) }
     }
 
     /// Places so many bytes, another count and code each time; where.
     fn place_key(&mut self, key: Key, length: usize) -> usize {
         let (count, code) = (self.random.next() as u8, self.random.bytes(length));
-        let start = self.index.place(&mut self.store, key, count, &code).unwrap();
+        let start = self.index.place(key, count, &code).unwrap();
         self.placed.insert((key.space, key.pc), (count, code));
         start
     }
@@ -33,17 +37,11 @@ impl Life {
 
     /// Where a key's block is and how long, if it is found; count and code are those placed last.
     fn find_key(&self, key: Key) -> Option<(usize, usize)> {
-        let Found { start, length, count } = match self.index.lookup(key) {
-            Ok(found) => found,
-            Err(refusal) => {
-                assert_eq!(refusal, Refusal::NoBlock);
-                return None;
-            }
-        };
-        let code = &self.store[start..][..length];
+        let Found { start, code, count } = self.index.get(key)?;
         let placed = self.placed.get(&(key.space, key.pc)).expect("only what was placed is found");
         assert_eq!((count, code), (placed.0, &placed.1[..]), "{key:x?}");
-        Some((start, length))
+        assert_eq!(&self.index.store()[start..][..code.len()], code, "{key:x?}");
+        Some((start, code.len()))
     }
 
     fn find(&self, pc: u64) -> Option<(usize, usize)> {
@@ -92,7 +90,7 @@ fn a_rest_of_the_store() {
     let mut life = Life::new(27);
     assert_eq!([life.place(1, 12), life.place(2, 12), life.place(3, 4)], [0, 12, 0]);
     assert_eq!(life.blocks(), [(2, 12, 12), (3, 0, 4)]);
-    assert_eq!(life.store[24..], [0xA5; 3]);
+    assert_eq!(life.index.store()[24..], [FILL; 3]);
 }
 
 /// Dropped are those that share a byte with the new block, whole or in part; those that touch it stay.
@@ -222,9 +220,9 @@ fn emptied() {
         for pc in 0..last {
             life.place(pc, 4);
         }
-        let store = life.store.clone();
+        let store = life.index.store().clone();
         life.index.empty();
-        assert_eq!((life.blocks(), &life.store), (vec![], &store));
+        assert_eq!((life.blocks(), life.index.store()), (vec![], &store));
         assert_eq!([life.place(7, 8), life.place(8, 4)], [0, 8]);
         assert_eq!(life.blocks(), [(7, 0, 8), (8, 8, 4)]);
         life.index.empty();
@@ -233,17 +231,14 @@ fn emptied() {
 
 #[test]
 fn counts() {
-    let (mut index, mut store) = (Index::new(), [0; 1_024]);
+    let mut index = Index::new(1_024);
     let key = |count: u8| Key { space: 0, pc: count.into() };
     for count in 0..=255 {
-        assert_eq!(
-            index.place(&mut store, key(count), count, &[count; 4]),
-            Ok(4 * usize::from(count))
-        );
+        assert_eq!(index.place(key(count), count, &[count; 4]), Ok(4 * usize::from(count)));
     }
     for count in 0..=255 {
-        let start = 4 * usize::from(count);
-        assert_eq!(index.lookup(key(count)), Ok(Found { start, length: 4, count }));
+        let (start, code) = (4 * usize::from(count), &[count; 4][..]);
+        assert_eq!(index.get(key(count)), Some(Found { start, code, count }));
     }
 }
 
@@ -334,15 +329,133 @@ fn keys_of_one_bucket() {
     assert_eq!(life.pcs().len(), 512);
 }
 
-/// A copy goes its own way.
 #[test]
-fn copies() {
-    let (mut index, mut store) = (Index::default(), [0; 16]);
-    let [one, two] = [1, 2].map(|pc| Key { space: 0, pc });
-    index.place(&mut store, one, 1, &[1; 12]).unwrap();
-    let (copy, before) = (index.clone(), store);
-    index.place(&mut store, two, 1, &[2; 12]).unwrap();
-    assert_eq!([index.lookup(one).is_ok(), index.lookup(two).is_ok()], [false, true]);
-    assert_eq!([copy.lookup(one).is_ok(), copy.lookup(two).is_ok()], [true, false]);
-    assert_eq!((before[..12].to_vec(), format!("{index:?}")), (vec![1; 12], "Index { .. }".into()));
+fn new_ones() {
+    for size in [0, 1, 20, 4_096] {
+        let index = Index::new(size);
+        assert_eq!(index.store()[..], vec![0; size]);
+        assert_eq!((index.get(KEY), format!("{index:?}")), (None, "Index { .. }".into()));
+    }
+}
+
+/// An index of another's bytes answers alike and goes on alike; then each goes its own way.
+#[test]
+fn saved() {
+    for last in [0, 1, 511, 512, 513, 1_023, 1_024, 1_500] {
+        let mut life = Life::new(4 * 700);
+        for pc in 0..last {
+            life.place(pc, 4);
+        }
+        let index = Index::from_saved(life.index.saved(), life.index.store().clone());
+        let (placed, random) = (life.placed.clone(), Random(life.random.0));
+        let mut again = Life { index, placed, random };
+        for pc in 0..600 {
+            assert_eq!(again.place(pc % 150, 8), life.place(pc % 150, 8), "{last}");
+        }
+        assert_eq!(again.blocks(), life.blocks(), "{last}");
+        assert!(again.index.saved() == life.index.saved(), "{last}");
+        assert!(again.index.store() == life.index.store(), "{last}");
+        let blocks = life.blocks();
+        again.place(9_999, 4 * 700);
+        assert_eq!((again.pcs(), life.blocks()), (vec![9_999], blocks), "{last}");
+    }
+}
+
+const KEY: Key = Key { space: 0, pc: 7 };
+
+/// An index with one block, under `KEY`, whose entry has such a start and length; its store has so many bytes.
+fn told(start: u64, length: u64, size: usize) -> Index {
+    let mut index = Index::new(4);
+    index.place(KEY, 9, &[1; 4]).unwrap();
+    // Entries have 40 bytes, from 4,096 on: space and PC, start and length, and others. The first block has entry 1.
+    let mut bytes = *index.saved();
+    bytes[4_096 + 40 + 16..][..8].copy_from_slice(&start.to_le_bytes());
+    bytes[4_096 + 40 + 24..][..8].copy_from_slice(&length.to_le_bytes());
+    Index::from_saved(&bytes, vec![FILL; size].into())
+}
+
+/// A block that is not in the store is not found, nor one of no length; one that is in it has the bytes there.
+#[test]
+fn beyond_the_store() {
+    let far = u64::MAX;
+    for (start, length) in [
+        (far - 7, 8),
+        (far - 7, 16),
+        (far, far),
+        (16, far - 15),
+        (1 << 63, 1 << 63),
+        (0, 101),
+        (97, 4),
+        (101, 1),
+        (0, 0),
+    ] {
+        let mut index = told(start, length, 100);
+        assert_eq!(index.get(KEY), None, "{start} {length}");
+        let start = index.place(KEY, 3, &[2; 8]).unwrap();
+        assert_eq!(index.get(KEY), Some(Found { start, code: &[2; 8], count: 3 }));
+    }
+    for (start, length) in [(0, 1), (0, 100), (3, 5), (96, 4)] {
+        let (index, code) = (told(start, length, 100), &vec![FILL; length as usize][..]);
+        assert_eq!(index.get(KEY), Some(Found { start: start as usize, code, count: 9 }));
+    }
+}
+
+/// Bytes that no index has, by kind: any, ones, few bits, and those of an index with a larger store, with some bits
+/// changed.
+fn rubbish(kind: usize, random: &mut Random) -> Index {
+    let mut bytes = random.bytes(INDEX_BYTES);
+    match kind {
+        0 => {}
+        1 => bytes.fill(0xFF),
+        2 => bytes.iter_mut().for_each(|byte| *byte &= (random.next() & random.next()) as u8),
+        _ => {
+            let mut life = Life::new(8_000);
+            (0..900).map(|pc| life.place(pc % 300, 12)).last();
+            bytes = life.index.saved().to_vec();
+            (0..kind * 100).for_each(|_| random.change_bit(&mut bytes));
+        }
+    }
+    let size = random.pick(&[0, 3, 64, 100, 1_000, 7_448]);
+    Index::from_saved(bytes.first_chunk().unwrap(), random.bytes(size).into())
+}
+
+/// A block is placed as far as the store has room for it, and no other byte of the store changes; whether it was.
+fn place_into(index: &mut Index, key: Key, code: &[u8]) -> bool {
+    let (mut expected, length) = (index.store().clone(), code.len());
+    let placed = index.place(key, 9, code);
+    let refused = length == 0 || !length.is_multiple_of(4) || length > expected.len();
+    match placed {
+        Ok(start) => expected[start..][..length].copy_from_slice(code),
+        Err(refusal) => assert_eq!(refusal, Refusal::CodeLength),
+    }
+    assert_eq!((placed.is_err(), index.store()), (refused, &expected));
+    !refused
+}
+
+/// With any bytes in it every call ends: what is found is in the store, what is placed goes into it. Emptied, it is
+/// an index like any other.
+#[test]
+fn other_bytes() {
+    let (mut random, mut found, mut missed, mut placed) = (Random(3), 0, 0, 0);
+    for kind in (0..6).cycle().take(60) {
+        let mut index = rubbish(kind, &mut random);
+        for _ in 0..40 {
+            let key = Key { space: 0, pc: random.next() % 310 };
+            match index.get(key) {
+                Some(Found { start, code, .. }) => {
+                    assert_eq!(&index.store()[start..][..code.len()], code);
+                    found += 1;
+                }
+                None => missed += 1,
+            }
+            let length = random.pick(&[0, 2, 4, 8, 12, 64, 100, 1_000, 8_000]);
+            placed += u32::from(place_into(&mut index, key, &random.bytes(length)));
+        }
+        index.empty();
+        assert_eq!((0..310).find(|&pc| index.get(Key { space: 0, pc }).is_some()), None);
+        if place_into(&mut index, KEY, &[5; 4]) {
+            assert_eq!(index.get(KEY), Some(Found { start: 0, code: &[5; 4], count: 9 }));
+        }
+    }
+    assert!(found > 50 && missed > 1_000 && placed > 500, "{found} {missed} {placed}");
 }

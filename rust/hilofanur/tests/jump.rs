@@ -1,11 +1,15 @@
-//! Blocks that the processor runs, from an executable store: on AArch64 alone.
+//! Blocks that the processor runs, from an executable store and from an index over one: on AArch64 alone.
 #![cfg(all(target_arch = "aarch64", target_os = "linux"))]
 
 use draw::guest::Guests;
 use draw::values::{registers, value};
 use draw::Random;
 use hilofanur::{rv64_run, translate, EndKind, ExecutableStore, Guest, Host, Index, Key};
-use hilofanur::{Next, Registers, LONGEST_BLOCK};
+use hilofanur::{Next, PlaceError, Refusal, Registers, LONGEST_BLOCK};
+use std::ffi::{c_int, c_void};
+use std::fs::File;
+use std::io::ErrorKind;
+use std::os::fd::AsRawFd;
 
 /// Slot 0 is 64 bytes after what X0 points to.
 const SLOT_OFFSET: u64 = 64;
@@ -170,35 +174,119 @@ fn never_both() {
     assert!(ExecutableStore::new(0).is_err());
 }
 
-/// With the index, in a store of exactly as many bytes as one block has: the other block takes its place.
+/// The words of c.li a0, n at a PC, five of them: MOVZ, STR, MOVZ X0, MOVZ X1, RET.
+fn c_li(n: u64, pc: u64) -> Vec<u8> {
+    let bytes = (0x4501 | (n as u16 & 31) << 2).to_le_bytes();
+    let mut output = vec![0; LONGEST_BLOCK];
+    let block = translate(&guest(&bytes, pc), &host(), &mut output).unwrap();
+    assert_eq!(block.length, 20);
+    output.truncate(20);
+    output
+}
+
+fn key(pc: u64) -> Key {
+    Key { space: 7, pc }
+}
+
+/// Runs the block at a PC, if the index has one: its a0. Next PC and count are as they must be.
+fn run(index: &Index<ExecutableStore>, pc: u64) -> Option<u64> {
+    let (found, mut hart) = (index.get(key(pc))?, hart([0; 32]));
+    // SAFETY: a whole block of Translate's, which calls no helper; X0 leads to the hart.
+    let next = unsafe { index.call(&found, (&raw mut hart).cast(), [0; 5]) };
+    assert_eq!((next, found.count, found.code.len()), (Next { pc: pc + 2, count: 1 }, 1, 20));
+    Some(hart.x[10])
+}
+
+/// In a store with room for one block each takes the place of the one before, which is found no more; placed again,
+/// it is found again.
 #[test]
-fn by_the_index() {
-    let (mut index, mut output) = (Index::new(), [0; LONGEST_BLOCK]);
-    let mut store = ExecutableStore::new(16).unwrap();
-    for (pc, c_li) in [(0x1000, 0x4505_u16), (0x2000, 0x4509), (0x1000, 0x4505)] {
-        let bytes = c_li.to_le_bytes();
-        let block = translate(&guest(&bytes, pc), &host(), &mut output).unwrap();
-        let key = Key { space: 7, pc };
-        assert!(index.lookup(key).is_err());
-        let mut open = store.open().unwrap();
-        let start = index.place(&mut open, key, 1, &output[..block.length]);
-        // c.li is five words: MOVZ, STR, MOVZ X0, MOVZ X1, RET.
-        assert_eq!(start, Err(hilofanur::Refusal::CodeLength));
-        drop(open);
+fn one_block() {
+    let mut index = Index::executable(20).unwrap();
+    for (pc, n) in [(0x1000, 1), (0x2000, 2), (0x1000, 1), (0x1000, 3), (0x2000, 4)] {
+        assert_eq!(index.place(key(pc), 1, &c_li(n, pc)).unwrap(), 0);
+        assert_eq!((run(&index, pc), run(&index, 0x3000 - pc)), (Some(n), None));
+        assert_eq!(index.get(key(pc)).unwrap().code, c_li(n, pc));
     }
-    let mut store = ExecutableStore::new(20).unwrap();
-    for (pc, c_li, a0) in [(0x1000, 0x4505_u16, 1), (0x2000, 0x4509, 2), (0x1000, 0x4505, 1)] {
-        let bytes = c_li.to_le_bytes();
-        let block = translate(&guest(&bytes, pc), &host(), &mut output).unwrap();
-        let key = Key { space: 7, pc };
-        assert!(index.lookup(key).is_err());
-        let mut open = store.open().unwrap();
-        let start = index.place(&mut open, key, 1, &output[..block.length]).unwrap();
-        open.close(start..start + block.length).unwrap();
-        let found = index.lookup(key).unwrap();
-        let mut hart = hart([0; 32]);
-        // SAFETY: as in `jump`; the block calls no helper.
-        let next = unsafe { store.call(found.start, (&raw mut hart).cast(), [0; 5]) };
-        assert_eq!((next, hart.x[10]), (Next { pc: pc + 2, count: 1 }, a0));
+    index.empty();
+    assert_eq!([0x1000, 0x2000].map(|pc| run(&index, pc)), [None; 2]);
+}
+
+/// In a store with room for three the fourth drops the first and no other; the others run on where they stand.
+#[test]
+fn three_blocks() {
+    let mut index = Index::executable(64).unwrap();
+    let pcs = [0x1000, 0x2000, 0x3000, 0x4000];
+    for n in 0..30 {
+        let pc = pcs[n as usize % 4];
+        assert_eq!(run(&index, pc), None);
+        assert_eq!(index.place(key(pc), 1, &c_li(n, pc)).unwrap(), n as usize % 3 * 20);
+        let last = n.saturating_sub(2)..=n;
+        for n in last {
+            assert_eq!(run(&index, pcs[n as usize % 4]), Some(n));
+        }
     }
+}
+
+/// A block that a helper ends, by the index: c.nop, then c.lw.
+#[test]
+fn a_helper_by_the_index() {
+    let (mut index, mut output) = (Index::executable(1 << 16).unwrap(), [0; LONGEST_BLOCK]);
+    let block = translate(&guest(&[1, 0, 0xC8, 0x41], 0x1000), &host(), &mut output).unwrap();
+    index.place(key(0x1000), 2, &output[..block.length]).unwrap();
+    let (found, mut hart) = (index.get(key(0x1000)).unwrap(), hart([0; 32]));
+    let x0 = &raw mut hart;
+    // SAFETY: as in `jump`.
+    let next = unsafe { index.call(&found, x0.cast(), [x0 as u64, 21, 22, 23, 24]) };
+    assert_eq!((next, found.count), (Next { pc: 0x1004, count: 2 }, 2));
+    assert_eq!(hart.asked, [21, 22, 23, 24, 0x41C8, 0x1002, 0, 3]);
+}
+
+/// A refusal leaves index and store, which is executable after it as after a placing.
+#[test]
+fn refused_by_the_index() {
+    let mut index = Index::executable(20).unwrap();
+    let address = index.store().as_ptr() as usize;
+    index.place(key(0x1000), 1, &c_li(5, 0x1000)).unwrap();
+    let (bytes, store) = (*index.saved(), index.store().to_vec());
+    for length in [0, 3, 24] {
+        let refused = index.place(key(0x1000), 1, &vec![0; length]).unwrap_err();
+        assert_eq!(refused.to_string(), Refusal::CodeLength.to_string());
+        assert!(matches!(refused, PlaceError::Refused(Refusal::CodeLength)));
+        assert!((index.saved(), &index.store()[..]) == (&bytes, &store[..]));
+        assert_eq!(allowed(address).as_deref(), Some("r-x"));
+        assert_eq!(run(&index, 0x1000), Some(5));
+    }
+    drop(index);
+    assert_eq!(allowed(address), None);
+    assert!(Index::executable(0).is_err());
+}
+
+extern "C" {
+    fn mmap(
+        at: *mut c_void,
+        length: usize,
+        may: c_int,
+        how: c_int,
+        file: c_int,
+        from: i64,
+    ) -> *mut c_void;
+}
+
+/// Where the store cannot be made writable, nothing is found any more: a shared mapping of a file that is open to be
+/// read stands in its place.
+#[test]
+fn a_store_that_stays_shut() {
+    let mut index = Index::executable(20).unwrap();
+    index.place(key(0x1000), 1, &c_li(5, 0x1000)).unwrap();
+    let file = File::open("/proc/self/exe").unwrap();
+    let (at, read, shared_fixed) = (index.store().as_ptr().cast_mut().cast(), 1, 0x11);
+    // SAFETY: the page is the store's own, of which no borrow is left; it stays readable.
+    let mapped = unsafe { mmap(at, 20, read, shared_fixed, file.as_raw_fd(), 0) };
+    assert_eq!(mapped, at);
+    let Err(PlaceError::Store(error)) = index.place(key(0x2000), 1, &c_li(6, 0x2000)) else {
+        panic!("placed");
+    };
+    assert_eq!(error.kind(), ErrorKind::PermissionDenied);
+    assert!(PlaceError::from(error).to_string().starts_with("the executable store: "));
+    assert_eq!([0x1000, 0x2000].map(|pc| index.get(key(pc))), [None; 2]);
 }

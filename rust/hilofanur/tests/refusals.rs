@@ -6,8 +6,8 @@ use draw::words;
 use hilofanur::boundary::{self, A64RunAnswer, ListAnswer, PlaceAnswer};
 use hilofanur::boundary::{IndexLookupAnswer, IndexPlaceAnswer, Rv64RunAnswer, TranslateAnswer};
 use hilofanur::{a64_run, a64_run_from, list, list_into, place, rv64_run, translate};
-use hilofanur::{A64Run, A64State, End, EndKind, Guest, Host, Index, Key};
-use hilofanur::{Found, ListRefused, Memory, Placed, Refusal, Registers, Words, INDEX_BYTES};
+use hilofanur::{A64Run, A64State, End, EndKind, Found, Guest, Host, Index, Key, ListRefused};
+use hilofanur::{Memory, Placed, Refusal, Registers, Words, INDEX_BYTES};
 
 const HOST: Host =
     Host { slot_offset: 0, memory_helper: 0x10000, helper32: 0x20000, helper16: 0x30000 };
@@ -264,24 +264,32 @@ fn list_accepts_the_edges() {
 
 const KEY: Key = Key { space: 3, pc: 0x1000 };
 
+/// An empty index with a store of such bytes.
+fn filled(size: usize) -> Index {
+    let mut index = Index::from_saved(&[FILL; INDEX_BYTES], vec![FILL; size].into());
+    index.empty();
+    index
+}
+
 /// Length `length` is refused by 15 in a store of `size`, by an index that is empty and by one with blocks; what is
 /// lent stays.
 fn refuse_index_place(size: usize, length: usize) {
     let code = vec![1; length];
     let mut store = vec![FILL; size];
-    let (mut index, mut bytes) = (Index::new(), [FILL; INDEX_BYTES]);
+    let (mut index, mut bytes) = (filled(size), [FILL; INDEX_BYTES]);
     boundary::index_empty(&mut bytes);
     for pc in [1, 2, 3] {
         let before = (bytes, store.clone());
         let answer = boundary::index_place(&mut bytes, &mut store, KEY, 9, &code);
         assert_eq!(answer, IndexPlaceAnswer { refusal: 15, start: 0 }, "{size} {length}");
         assert!((bytes, &store) == (before.0, &before.1), "{size} {length}");
-        assert_eq!(index.place(&mut store, KEY, 9, &code), Err(Refusal::CodeLength));
-        assert_eq!((index.lookup(KEY), &store), (Err(Refusal::NoBlock), &before.1));
+        assert_eq!(index.place(KEY, 9, &code), Err(Refusal::CodeLength));
+        assert!((index.saved(), &index.store()[..]) == (&bytes, &store[..]), "{size} {length}");
+        assert_eq!(index.get(KEY), None);
         // A block more, where there is room for it.
         let other = Key { pc, ..KEY };
         boundary::index_place(&mut bytes, &mut store, other, 1, &[2; 4]);
-        assert_eq!(index.place(&mut store, other, 1, &[2; 4]).is_ok(), size >= 4);
+        assert_eq!(index.place(other, 1, &[2; 4]).is_ok(), size >= 4);
     }
 }
 
@@ -299,11 +307,11 @@ fn index_place_by_number() {
 #[test]
 fn index_place_accepts_the_edges() {
     for (size, length) in [(4, 4), (5, 4), (7, 4), (8, 8), (64, 64), (66, 64), (8_192, 8_192)] {
-        let (mut index, mut store) = (Index::new(), vec![FILL; size]);
-        assert_eq!(index.place(&mut store, KEY, 9, &vec![1; length]), Ok(0), "{size} {length}");
-        assert_eq!(index.lookup(KEY), Ok(Found { start: 0, length, count: 9 }));
-        let (written, rest) = store.split_at(length);
-        assert_eq!((written, rest), (&vec![1; length][..], &vec![FILL; size - length][..]));
+        let (mut index, code) = (filled(size), vec![1; length]);
+        assert_eq!(index.place(KEY, 9, &code), Ok(0), "{size} {length}");
+        assert_eq!(index.get(KEY), Some(Found { start: 0, code: &code, count: 9 }));
+        let (written, rest) = index.store().split_at(length);
+        assert_eq!((written, rest), (&code[..], &vec![FILL; size - length][..]));
     }
 }
 
@@ -321,25 +329,25 @@ fn index_lookup_by_number() {
     let others =
         [Key { space: 3, pc: 0x1001 }, Key { space: 4, pc: 0x1000 }, Key { space: 0, pc: 0 }];
     let mut store = [FILL; 16];
-    let (mut index, mut bytes) = (Index::new(), [FILL; INDEX_BYTES]);
+    let (mut index, mut bytes) = (filled(16), [FILL; INDEX_BYTES]);
     boundary::index_empty(&mut bytes);
     refuse_lookup(&bytes, KEY);
-    assert_eq!(index.lookup(KEY), Err(Refusal::NoBlock));
+    assert_eq!(index.get(KEY), None);
 
     boundary::index_place(&mut bytes, &mut store, KEY, 9, &[1; 8]);
-    index.place(&mut store, KEY, 9, &[1; 8]).unwrap();
+    index.place(KEY, 9, &[1; 8]).unwrap();
     let found = IndexLookupAnswer { refusal: 0, start: 0, length: 8, count: 9 };
     assert_eq!(boundary::index_lookup(&bytes, KEY), found);
-    assert_eq!(index.lookup(KEY), Ok(Found { start: 0, length: 8, count: 9 }));
+    assert_eq!(index.get(KEY), Some(Found { start: 0, code: &[1; 8], count: 9 }));
     for key in others {
         refuse_lookup(&bytes, key);
-        assert_eq!(index.lookup(key), Err(Refusal::NoBlock));
+        assert_eq!(index.get(key), None);
     }
 
     boundary::index_empty(&mut bytes);
     index.empty();
     refuse_lookup(&bytes, KEY);
-    assert_eq!(index.lookup(KEY), Err(Refusal::NoBlock));
+    assert_eq!(index.get(KEY), None);
 }
 
 #[test]

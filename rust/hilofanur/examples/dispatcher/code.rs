@@ -1,4 +1,4 @@
-//! Blocks: translated, placed in a store, found again by PC through the library's index. Those that FENCE.I ends are
+//! Blocks: translated, placed in the library's index, found again by PC. Those that FENCE.I ends are
 //! run once, from a store of their own.
 
 use hilofanur::{place, translate, Block, EndKind, Guest, Host};
@@ -27,7 +27,6 @@ pub enum OnFence {
 }
 
 pub struct Code {
-    store: Vec<u8>,
     once: [u8; LONGEST_BLOCK],
     index: Index,
     output: [u8; LONGEST_BLOCK],
@@ -64,9 +63,8 @@ impl Code {
     /// With a store of so many bytes.
     pub fn new(store: usize, on_fence: OnFence) -> Code {
         Code {
-            store: vec![0; store],
             once: [0; LONGEST_BLOCK],
-            index: Index::new(),
+            index: Index::new(store),
             output: [0; LONGEST_BLOCK],
             on_fence,
             translated: 0,
@@ -81,9 +79,9 @@ impl Code {
 
     /// The block at the guest's PC: the one in the index, or a new one.
     pub fn block(&mut self, guest: &Guest) -> Result<Ready, Refusal> {
-        if let Ok(found) = self.index.lookup(key(guest.pc)) {
+        if let Some(found) = self.index.get(key(guest.pc)) {
             self.found += 1;
-            let (start, length, count) = (found.start, found.length, found.count.into());
+            let (start, length, count) = (found.start, found.code.len(), found.count.into());
             return Ok(Ready { start, length, once: false, count, new: None });
         }
         let block = translate(guest, &HOST, &mut self.output)?;
@@ -98,8 +96,7 @@ impl Code {
     /// Places the new block in the index; where.
     fn keep(&mut self, pc: u64, block: &Block) -> Result<usize, Refusal> {
         let count = u8::try_from(block.count).expect("at most 64 instructions");
-        let code = &self.output[..block.length];
-        let start = self.index.place(&mut self.store, key(pc), count, code)?;
+        let start = self.index.place(key(pc), count, &self.output[..block.length])?;
         self.placed += 1;
         self.pcs.insert(pc);
         Ok(start)
@@ -118,7 +115,7 @@ impl Code {
 
     /// Blocks that are in the index.
     fn kept(&self) -> u64 {
-        self.pcs.iter().filter(|&&pc| self.index.lookup(key(pc)).is_ok()).count() as u64
+        self.pcs.iter().filter(|&&pc| self.index.get(key(pc)).is_some()).count() as u64
     }
 
     /// Blocks that left the index because others took their place.
@@ -129,7 +126,7 @@ impl Code {
     /// The words of a block.
     pub fn words(&self, block: &Ready) -> Words<'_> {
         let (store, address) =
-            if block.once { (&self.once[..], ONCE) } else { (&self.store[..], ADDRESS) };
+            if block.once { (&self.once[..], ONCE) } else { (&self.index.store()[..], ADDRESS) };
         let bytes = &store[block.start..][..block.length];
         Words { bytes, address: address + block.start as u64 }
     }
@@ -167,7 +164,7 @@ mod tests {
             // A key that has a block is looked up, one that has a block FENCE.I ended is translated.
             assert_eq!(ask(&mut code, &fenced, 0x3000), (true, 2, 3, ONCE));
             for pc in [0x1000, 0x2000, 0x3000] {
-                assert_eq!(code.index.lookup(key(pc)), Err(Refusal::NoBlock));
+                assert_eq!(code.index.get(key(pc)), None);
             }
             let counts = (code.translated, code.words, code.placed, code.found);
             assert_eq!(counts, (3 * round, 9 * round, 2 * round, 4 * round));
@@ -200,7 +197,7 @@ mod tests {
             ask(&mut code, &[1, 0], 0x1000);
             assert_eq!(ask(&mut code, &FENCE_I, 0x3000), (true, 1, 3, ONCE));
             assert_eq!(ask(&mut code, &[1, 0, 1, 0], 0x1000), expected);
-            assert_eq!(code.index.lookup(key(0x3000)), Err(Refusal::NoBlock));
+            assert_eq!(code.index.get(key(0x3000)), None);
         }
     }
 }
