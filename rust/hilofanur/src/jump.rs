@@ -245,7 +245,7 @@ impl Index<ExecutableStore> {
     /// dropped is as with plain bytes.
     ///
     /// # Errors
-    /// Refusal 15, or what `mprotect` answered; then the index is empty.
+    /// Refusal 15. Those of `mprotect`, after which the index is empty.
     pub fn place(&mut self, key: Key, count: u8, code: &[u8]) -> Result<usize, PlaceError> {
         let placed = self.place_and_close(key, count, code);
         // The store may not be executable, or the new words not ones that can be run.

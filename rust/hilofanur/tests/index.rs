@@ -349,6 +349,7 @@ fn saved() {
         let index = Index::from_saved(life.index.saved(), life.index.store().clone());
         let (placed, random) = (life.placed.clone(), Random(life.random.0));
         let mut again = Life { index, placed, random };
+        assert_eq!(again.blocks(), life.blocks(), "{last}");
         for pc in 0..600 {
             assert_eq!(again.place(pc % 150, 8), life.place(pc % 150, 8), "{last}");
         }
@@ -419,7 +420,7 @@ fn rubbish(kind: usize, random: &mut Random) -> Index {
     Index::from_saved(bytes.first_chunk().unwrap(), random.bytes(size).into())
 }
 
-/// A block is placed as far as the store has room for it, and no other byte of the store changes; whether it was.
+/// A block is placed where its length allows it, and no other byte of the store changes; whether it was.
 fn place_into(index: &mut Index, key: Key, code: &[u8]) -> bool {
     let (mut expected, length) = (index.store().clone(), code.len());
     let placed = index.place(key, 9, code);
