@@ -3,6 +3,7 @@ ghost use mathlib.Core.Path.{_≡_};
 ghost use lib.ListN.{take};
 ghost use Rattle.translation.specs.Demand3.{HelperFree, Demand3};
 ghost use Rattle.translation.specs.HelperBlock.{HelperEnded, HelperBlock};
+ghost use Rattle.translation.specs.RustBlock.{RustBlock};
 ghost use Rattle.listing.specs.Listing.{Lists};
 ghost use Rattle.block_log.specs.Log.{emptied};
 ghost use Rattle.block_index.specs.History.{Looks, Places};
@@ -83,6 +84,7 @@ pub extern "C" fn hilofanur_translate(
     ensures { λ r. ⌜ Answers.translate-result r (now (output .exit)) ≡ Answers.translate (now (guest .entry)) pc limit (Answers.host «ignore_ebreak» «slot_offset» «memory_helper» helper32 helper16) (now (output .entry)) ⌝ }
     ensures { λ r. ⌜ (HelperFree (r .end) → Demand3 (now (guest .entry)) pc limit «ignore_ebreak» «slot_offset» (take (r .length) (now (output .exit))) (r .count)) ⌝ }
     ensures { λ r. ⌜ (HelperEnded (r .end) → HelperBlock (Answers.host «ignore_ebreak» «slot_offset» «memory_helper» helper32 helper16) (now (guest .entry)) pc limit (take (r .length) (now (output .exit))) (r .count)) ⌝ }
+    ensures { λ r. ⌜ (r .refusal ≡ 0 → RustBlock (Answers.host «ignore_ebreak» «slot_offset» «memory_helper» helper32 helper16) (now (guest .entry)) pc limit (take (r .length) (now (output .exit))) (r .count)) ⌝ }
 {
     let host = Host {
         slot_offset,

@@ -7,7 +7,7 @@ use mathlib.Core.Option.{none, some}
 use Prim.Native.Nat.{ℕ, suc, _+_, _-_, _*_, _%_, _^_, _≤_, _<_}
 use native.Mathlib.Omega.{arith}
 use lib.Dec.{eqb, leb, T}
-use lib.ListN.{length, getD, drop, length-append}
+use lib.ListN.{length, getD, drop, length-append, length-set}
 use lib.Seq.{getD-set-same, getD-set-other}
 use borrow.Author.Tests.{ne-eqb, le-leb, lt-leb, leb-true}
 use Rattle.rules.specs.Limits.{max-instrs, max-slot-offset}
@@ -35,8 +35,8 @@ use Rattle.term_helper.specs.TermHelper as TH
 use Rattle.translation.specs.Demand3.{slot, place, Entry, Outside}
 use Rattle.translation.specs.HelperBlock as Spec
 use Rattle.translation.specs.HelperBlock.{lowered, cell, Stack, Beside, Left, Returns, HelperBlock}
-use Rattle.translation.proofs.Registers.{getD-tab, length-tab, tab}
-use Rattle.translation.proofs.Calls.{Model, calls-run, scratch, all-fit, all-keep, AllIn, Kept, calls-kept, real}
+use Rattle.translation.proofs.Registers.{getD-tab, length-tab, tab-below, tab}
+use Rattle.translation.proofs.Calls.{Model, calls-run, scratch, all-fit, all-keep, AllIn, Kept, small-set, calls-kept, real}
 use Rattle.translation.proofs.Moves.{move-call, all-moved, with-r, moves-go, moves-high, moves-small}
 use Rattle.translation.proofs.Instrs.{run-append, fit-append, in-append}
 use Rattle.translation.proofs.Arguments.{restoring, calling, at-each, Arranged, takes32, takes16}
@@ -275,12 +275,12 @@ module _ (h : Host) (hm : h .«memory_helper» < 2 ^ 64) (h32 : h .helper32 < 2 
     as-saved : Lowered o s σ saved
     as-saved = record { sp = refl; base = refl; size = length-store 8 (goes .0) (cell s) (reg passed 30) (omega (arith, at-cell)) ∙ goes .2 .size }
 
-    small : (k : ℕ) → k < 31 → reg passed k < 2 ^ 64
-    small k hk = rw (getD-tab 31 rs k hk) (moves-small (a .moves) (u .r) (a .range) (κ-u .regs) k)
+    small : (k : ℕ) → reg passed k < 2 ^ 64
+    small k = tab-below (2 ^ 64) 31 rs k (omega arith) (moves-small (a .moves) (u .r) (a .range) (κ-u .regs))
 
     fits-words : Fit 4 (ws ++ (blr 16 ∷ (bs ++ (ret ∷ []))))
     fits-words =
-        let r = resumed o s σ saved as-saved (length-tab 31 rs) (small 1 (omega arith)) holds (g .count) few in
+        let r = resumed o s σ saved as-saved (length-tab 31 rs) (small 1) holds (g .count) few in
         straight-words ws _ s saved straight (omega arith, straight-words bs (ret ∷ []) saved (r .0) (r .1) (omega arith, tt))
 
     -- ---- both
@@ -307,13 +307,28 @@ module _ (h : Host) (hm : h .«memory_helper» < 2 ^ 64) (h32 : h .helper32 < 2 
         in
         rw (n, p, q) (r .2 (suc (length bs)))
 
+    to-call : (address budget : ℕ) → length (A64.words block) ≤ budget
+        → A64.run (A64.words block) address budget 0 s ≡ A64.ran End.Called (suc (length ws)) (at-call address)
+    to-call address budget hl = rw block-is (calls-helper (bs ++ (ret ∷ [])) address budget (omega (arith, hl, length-is)))
+
+    -- what `returns` asks of a helper can be met: one that changes nothing
+    pub idle : (address budget : ℕ) → length (A64.words block) ≤ budget
+        → Left (A64.run (A64.words block) address budget 0 s .state) (A64.run (A64.words block) address budget 0 s .state)
+    idle address budget hl =
+        rw (to-call address budget hl)
+        (record {
+          count = length-set (tab 31 rs) 30 _ ∙ length-tab 31 rs;
+          small = small-set (tab 31 rs) 30 _ small (omega arith);
+          base = refl;
+          size = refl;
+          sp = refl;
+          saved = refl;
+        })
+
     calls : (address budget : ℕ) → length (A64.words block) ≤ budget
         → Spec.Calls h guest pc block address s (W .count) (A64.run (A64.words block) address budget 0 s) g
     calls address budget hl =
-        let q : A64.run (A64.words block) address budget 0 s ≡ A64.ran End.Called (suc (length ws)) (at-call address) =
-        rw block-is (calls-helper (bs ++ (ret ∷ [])) address budget (omega (arith, hl, length-is)))
-        in
-        rw q
+        rw (to-call address budget hl)
         (record {
           end = refl;
           instructions = omega (arith, y .count);

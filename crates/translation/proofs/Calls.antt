@@ -237,7 +237,7 @@ module _ (r₀ : ℕ → ℕ) (b : Bool) (v : Model) (κ : Kept r₀ b v) (d w :
       by true q t = absurd t
       by false q t = rw (ne-eqb 0 d (λ e. eqb-false d 0 q (sym e)))
 
-small-set : (l : List ℕ) (n w : ℕ) → ((i : ℕ) → getD l i 0 < 2 ^ 64) → w < 2 ^ 64 → (i : ℕ) → getD (set l n w) i 0 < 2 ^ 64
+pub small-set : (l : List ℕ) (n w : ℕ) → ((i : ℕ) → getD l i 0 < 2 ^ 64) → w < 2 ^ 64 → (i : ℕ) → getD (set l n w) i 0 < 2 ^ 64
 small-set [] n w h hw i = h i
 small-set (x ∷ xs) zero w h hw zero = hw
 small-set (x ∷ xs) zero w h hw (suc i) = h (suc i)

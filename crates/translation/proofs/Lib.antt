@@ -17,5 +17,6 @@ pub mod Entering
 pub mod Whole
 pub mod Called
 pub mod Examples
+pub mod Witness
 pub mod Loads
 pub mod Translated

@@ -6,7 +6,7 @@ use Prim.Native.Nat.{ℕ, zero, suc, _≤_, _<_}
 use native.Mathlib.Nat.{not-suc-le-zero, le-of-suc-le-suc}
 use native.Mathlib.Omega.{arith}
 use lib.Dec.{eqb, eqb·zero-suc, eqb·suc-zero, eqb·suc-suc}
-use lib.ListN.{length, getD, set}
+use lib.ListN.{length, getD, set, replicate}
 use borrow.Author.Tests.{eqb-true, eqb-false}
 
 -- f with v at k
@@ -28,6 +28,12 @@ unfolding tab
 getD-tab zero f j h = absurd (not-suc-le-zero h)
 getD-tab (suc n) f zero h = refl
 getD-tab (suc n) f (suc j) h = getD-tab n (λ k. f (suc k)) j (le-of-suc-le-suc h)
+
+pub tab-below : (b n : ℕ) (f : ℕ → ℕ) (j : ℕ) → 0 < b → ((k : ℕ) → f k < b) → getD (tab n f) j 0 < b
+unfolding tab
+tab-below b zero f j z h = z
+tab-below b (suc n) f zero z h = h 0
+tab-below b (suc n) f (suc j) z h = tab-below b n (λ k. f (suc k)) j z (λ k. h (suc k))
 
 tab-out : (n : ℕ) (f : ℕ → ℕ) (j : ℕ) → n ≤ j → getD (tab n f) j 0 ≡ 0
 unfolding tab
@@ -53,3 +59,9 @@ operand-tab f k h = by (eqb k 31) refl
     by : (c : Bool) → eqb k 31 ≡ c → getD (tab 31 f) k 0 ≡ cond c 0 (f k)
     by true q = tab-out 31 f k (omega (arith, eqb-true k 31 q))
     by false q = getD-tab 31 f k (omega (arith, eqb-false k 31 q))
+
+-- a list of zeros
+pub zeros-below : (b n i : ℕ) → 0 < b → getD (replicate n 0) i 0 < b
+zeros-below b zero i h = h
+zeros-below b (suc n) zero h = h
+zeros-below b (suc n) (suc i) h = zeros-below b n i h

@@ -1,9 +1,9 @@
--- Demand 3, document 02, No. 5, and the Rust's words, for what translation answers. Assumes nothing.
+-- Demands 2 and 3, and document 02, No. 5, for what translation answers. Assumes nothing.
 use mathlib.Core.Path.{_≡_, refl, sym, ap, _∙_}
 use mathlib.Core.Logic.{inl, inr}
 use mathlib.Core.Option.{Option, none, some}
-use mathlib.Core.Bool.{Bool, true, false, not, _||_, true≢false}
-use mathlib.Core.List.{List, [], _∷_, _++_, map}
+use mathlib.Core.Bool.{Bool, true, false, cond, not, _||_, true≢false}
+use mathlib.Core.List.{List, [], _∷_, _++_}
 use Prim.Native.Nat.{ℕ, _-_, _%_, _^_, _≤_, _<_}
 use native.Mathlib.Omega.{arith}
 use lib.Dec.{eqb, ltb}
@@ -13,20 +13,21 @@ use Rattle.rules.specs.Limits.{max-instrs, max-slot-offset}
 use Rattle.le.specs.Le.{Bytes}
 use Rattle.emit_native.specs.declared.Host.{Host}
 use Rattle.a64_emitter.specs.Emitter.{bytes}
-use Rattle.emit_native.specs.Calls.{rust, product, words-in}
+use Rattle.emit_native.specs.Calls.{rust, product}
 use Rattle.jit_arm64.specs.declared.block.Stop.{Stop}
-use Rattle.jit_arm64.specs.Block.{Walk, block-calls, block-of}
-use Rattle.jit_arm64.specs.Fence.{fence}
+use Rattle.jit_arm64.specs.Block.{fetch, is-missing, Walk, block-of, compile-native-block}
+use Rattle.jit_arm64.specs.Fence.{fence, limit-at}
 use Rattle.jit_arm64.specs.Parts.{fence-walk}
-use Rattle.translator.specs.Translate.{Result, end-kind, end-number, accepted, bad-slot-offset, of-block, translate}
+use Rattle.translator.specs.Translate.{Result, end-kind, end-number, refused, accepted, bad-slot-offset, no-block, of-block, translate}
 use Rattle.jit_arm64.proofs.Refusals.{first, refuses}
 use Rattle.jit_arm64.proofs.Fences.{no-block-with-fence}
 use Rattle.translation.specs.Demand3.{HelperFree, Demand3}
 use Rattle.translation.specs.HelperBlock.{HelperEnded, HelperBlock}
+use Rattle.translation.specs.RustBlock.{RustBlock}
 use Rattle.translation.proofs.Fences.{whole-ends}
 use Rattle.translation.proofs.Whole.{demand3}
 use Rattle.translation.proofs.Called.{helper-block}
-use Rattle.translation.proofs.Loads.{without-slot-0, as-rust}
+use Rattle.translation.proofs.Loads.{as-rust}
 
 offset-by : (o : ℕ) (a b : Bool) → eqb (o % 8) 0 ≡ a → ltb max-slot-offset o ≡ b → (not a || b) ≡ false → (o % 8 ≡ 0) × (o ≤ max-slot-offset)
 offset-by o true false p q h = (eqb-true (o % 8) 0 p, ltb-false max-slot-offset o q)
@@ -41,6 +42,16 @@ second false false c h = refl
 front : (xs ys : List ℕ) → take (length xs) (xs ++ ys) ≡ xs
 front [] ys = refl
 front (x ∷ xs) ys = ap (λ (l : List ℕ). x ∷ l) (front xs ys)
+
+some-refusal : (guest : List ℕ) (pc limit : ℕ) → 1 ≤ no-block guest pc limit
+unfolding no-block
+some-refusal guest pc limit = by (eqb limit 0) (eqb (pc % 2) 1) (is-missing (fetch pc guest 0))
+  where
+    by : (a b c : Bool) → 1 ≤ cond a 2 (cond b 3 (cond c 4 5))
+    by true b c = omega arith
+    by false true c = omega arith
+    by false false true = omega arith
+    by false false false = omega arith
 
 -- kind 1 or 3: no helper ended the block
 plain-or-drop : (f : Option ℕ) (why : Stop) → ((m : ℕ) → f ≡ some m → why ≡ Stop.Limit)
@@ -73,13 +84,23 @@ module _ (h : Host) (pc limit : ℕ) (guest out : List ℕ) (hb : Bytes guest) (
     block : refuses h guest pc limit ≡ false
     is : translate h guest pc limit out ≡ accepted (block-of product h W) (end-kind f (W .stop)) out
 
-  by : (a t s : Bool) → bad-slot-offset (h .«slot_offset») ≡ a → refuses h guest pc limit ≡ t → ltb (length out) (length (block-of product h W .code)) ≡ s
-      → (translate h guest pc limit out .answer .end ≡ 0 → ⊥) → Accepted
+  block-is : compile-native-block product max-instrs h guest pc (limit-at f limit) ≡ cond (refuses h guest pc limit) none (some (block-of product h W))
+  block-is = no-block-with-fence product (max-instrs - 1) h guest pc limit hp
+
+  -- no refusal's
+  abbrev Unrefused : Result → Type 0
+  Unrefused r = (n : ℕ) → 1 ≤ n → r ≡ refused n out → ⊥
+
+  by : (a t s : Bool) → bad-slot-offset (h .«slot_offset») ≡ a → refuses h guest pc limit ≡ t
+      → ltb (length out) (length (block-of product h W .code)) ≡ s → Unrefused (translate h guest pc limit out) → Accepted
   unfolding translate of-block
-  by true t s p q r z = absurd (z (rw p refl))
-  by false true s p q r z = absurd (z (rw (p, no-block-with-fence product (max-instrs - 1) h guest pc limit hp, q) refl))
-  by false false true p q r z = absurd (z (rw (p, no-block-with-fence product (max-instrs - 1) h guest pc limit hp, q, r) refl))
-  by false false false p q r z = record { offset = p; block = q; is = rw (p, no-block-with-fence product (max-instrs - 1) h guest pc limit hp, q, r) refl }
+  by true t s p q r z = absurd (z 1 (omega arith) (rw p refl))
+  by false true s p q r z = absurd (z (no-block guest pc limit) (some-refusal guest pc limit) (rw (p, block-is, q) refl))
+  by false false true p q r z = absurd (z 6 (omega arith) (rw (p, block-is, q, r) refl))
+  by false false false p q r z = record { offset = p; block = q; is = rw (p, block-is, q, r) refl }
+
+  unrefused : (r : Result) → (r .answer .end ≡ 0 → ⊥) → Unrefused r
+  unrefused r z n l e = z (ap (λ (r : Result). r .answer .end) e)
 
   some-end : (n : ℕ) → HelperFree n → n ≡ 0 → ⊥
   unfolding end-number
@@ -91,7 +112,7 @@ module _ (h : Host) (pc limit : ℕ) (guest out : List ℕ) (hb : Bytes guest) (
   helper-end n p z = omega arith
 
   -- the block that translation answers
-  module _ (r : Result) (e : r ≡ translate h guest pc limit out) (z : r .answer .end ≡ 0 → ⊥) where
+  module _ (r : Result) (e : r ≡ translate h guest pc limit out) (z : Unrefused r) where
     a : Accepted
     a = by _ _ _ refl refl refl (rw e at z)
 
@@ -111,7 +132,7 @@ module _ (h : Host) (pc limit : ℕ) (guest out : List ℕ) (hb : Bytes guest) (
   pub translated : (r : Result) → r ≡ translate h guest pc limit out → HelperFree (r .answer .end)
       → Demand3 guest pc limit (h .«ignore_ebreak») (h .«slot_offset») (take (r .answer .length) (r .output)) (r .answer .count)
   translated r e k =
-      let z = some-end (r .answer .end) k in
+      let z = unrefused r (some-end (r .answer .end) k) in
       let g : W .stop ≡ Stop.Helper → ⊥ = plain-or-drop f (W .stop) (λ m e. whole-ends h guest pc limit max-instrs m e .0) (rw (r-is r e z) at k) in
       rw (code r e z, r-is r e z) (demand3 h pc limit guest hb hp (even r e z) (offset r e z .1) (offset r e z .0) g)
 
@@ -120,13 +141,19 @@ module _ (h : Host) (pc limit : ℕ) (guest out : List ℕ) (hb : Bytes guest) (
       → (r : Result) → r ≡ translate h guest pc limit out → HelperEnded (r .answer .end)
       → HelperBlock h guest pc limit (take (r .answer .length) (r .output)) (r .answer .count)
   translated-helper hm h32 h16 hl r e k =
-      let z : r .answer .end ≡ 0 → ⊥ = λ q. helper-end (r .answer .end) k q in
+      let z = unrefused r (helper-end (r .answer .end) k) in
       let g : W .stop ≡ Stop.Helper = helper-only f (W .stop) (rw (r-is r e z) at k) in
       rw (code r e z, r-is r e z) (helper-block h hm h32 h16 pc limit guest hb hl hp (even r e z) (offset r e z .1) (offset r e z .0) g)
 
-  -- the block's bytes are the Rust's at the limit that FENCE.I leaves, each LDR from slot 0 read as MOVZ with 0 (document 02, No. 6)
-  pub translated-words : h .«memory_helper» < 2 ^ 64 → h .helper32 < 2 ^ 64 → h .helper16 < 2 ^ 64 → length guest < 2 ^ 64
-      → (r : Result) → r ≡ translate h guest pc limit out → (r .answer .end ≡ 0 → ⊥)
-      → take (r .answer .length) (r .output) ≡ bytes (map (without-slot-0 (h .«slot_offset»)) (words-in rust (h .«slot_offset») (block-calls W)))
-  translated-words hm h32 h16 hl r e z =
-      code r e z ∙ ap bytes (as-rust h hm h32 h16 pc limit guest hb hl hp (even r e z) (offset r e z .1) (offset r e z .0))
+  -- demand 2
+  pub translated-rust : h .«memory_helper» < 2 ^ 64 → h .helper32 < 2 ^ 64 → h .helper16 < 2 ^ 64 → length guest < 2 ^ 64
+      → (r : Result) → r ≡ translate h guest pc limit out → r .answer .refusal ≡ 0
+      → RustBlock h guest pc limit (take (r .answer .length) (r .output)) (r .answer .count)
+  translated-rust hm h32 h16 hl r e k =
+      let z : Unrefused r = λ n l q. omega (arith, ap (λ (r : Result). r .answer .refusal) q) in
+      record {
+        native = block-of rust h W;
+        is = no-block-with-fence rust (max-instrs - 1) h guest pc limit hp ∙ rw (a r e z .block) refl;
+        counts = rw (r-is r e z) refl;
+        same = code r e z ∙ ap bytes (as-rust h hm h32 h16 pc limit guest hb hl hp (even r e z) (offset r e z .1) (offset r e z .0));
+      }

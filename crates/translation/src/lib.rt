@@ -1,10 +1,11 @@
-// Operation Translate with demand 3: what a block's words do to the slots is what the ISA does to the guest's registers; and
-// the same up to a helper's call and behind it (document 02, No. 5).
+// Operation Translate with demands 2 and 3: a block's words are the Rust's, and what they do to the slots is what the ISA
+// does to the guest's registers; the same up to a helper's call and after it (document 02, No. 5).
 ghost use mathlib.Core.Path.{_≡_};
 ghost use lib.ListN.{take};
 ghost use Rattle.translator.specs.Translate.{result, translate};
 ghost use Rattle.translation.specs.Demand3.{HelperFree, Demand3};
 ghost use Rattle.translation.specs.HelperBlock.{HelperEnded, HelperBlock};
+ghost use Rattle.translation.specs.RustBlock.{RustBlock};
 use emit_native::Host;
 use translator::Answer;
 
@@ -12,6 +13,7 @@ pub fn translate(guest: &[u8], pc: u64, limit: u32, host: Host, output: &mut [u8
     ensures { λ r. ⌜ result r (now (output .exit)) ≡ translate host (now (guest .entry)) pc limit (now (output .entry)) ⌝ }
     ensures { λ r. ⌜ (HelperFree (r .end) → Demand3 (now (guest .entry)) pc limit (host .«ignore_ebreak») (host .«slot_offset») (take (r .length) (now (output .exit))) (r .count)) ⌝ }
     ensures { λ r. ⌜ (HelperEnded (r .end) → HelperBlock host (now (guest .entry)) pc limit (take (r .length) (now (output .exit))) (r .count)) ⌝ }
+    ensures { λ r. ⌜ (r .refusal ≡ 0 → RustBlock host (now (guest .entry)) pc limit (take (r .length) (now (output .exit))) (r .count)) ⌝ }
 {
     translator::translate(guest, pc, limit, host, output)
 }

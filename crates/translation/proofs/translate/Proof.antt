@@ -1,7 +1,7 @@
 use borrow.Author.Needs.{needs}
 use native.Mathlib.Omega.{arith}
 use Rattle.le.specs.Le.{Bytes}
-use Rattle.translation.proofs.Translated.{translated, translated-helper}
+use Rattle.translation.proofs.Translated.{translated, translated-helper, translated-rust}
 use Rattle.translation.proofs.translate.Statement.{statement}
 use Rattle.translation.proofs.translate.Tie as tie
 
@@ -15,7 +15,10 @@ returns c =
       r,
       (
         λ p. translated (a .host) (a .pc) (a .limit) (a .guest .now) (a .output .now) b (search needs) _ r p,
-        λ p. translated-helper (a .host) (a .pc) (a .limit) (a .guest .now) (a .output .now) b (search needs) (search needs) (search needs) (search needs) (search needs) _ r p,
+        (
+          λ p. translated-helper (a .host) (a .pc) (a .limit) (a .guest .now) (a .output .now) b (search needs) (search needs) (search needs) (search needs) (search needs) _ r p,
+          λ p. translated-rust (a .host) (a .pc) (a .limit) (a .guest .now) (a .output .now) b (search needs) (search needs) (search needs) (search needs) (search needs) _ r p,
+        ),
       ),
     )
 

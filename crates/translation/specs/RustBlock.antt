@@ -1,0 +1,33 @@
+-- Translation's block beside the Rust's (demand 2; document 02, Nos. 3 and 6). Definitions only.
+use mathlib.Core.Path.{_≡_}
+use mathlib.Core.Bool.{cond}
+use mathlib.Core.Option.{Option, some}
+use mathlib.Core.List.{List, map}
+use Prim.Native.Nat.{ℕ, _/_, _%_}
+use lib.Dec.{eqb}
+use Rattle.le.specs.Le.{words}
+use Rattle.a64_emitter.specs.Emitter.{bytes}
+use Rattle.a64_emitter.specs.Writers.{ldr-x, movz}
+use Rattle.emit_native.specs.declared.Host.{Host}
+use Rattle.emit_native.specs.Calls.{rust}
+use Rattle.jit_arm64.specs.Block.{Block, compile-native-block}
+use Rattle.jit_arm64.specs.Fence.{fence, limit-at}
+
+-- the Rust's block, of at most 64 instructions; one with FENCE.I at the limit that FENCE.I leaves (document 02, No. 3)
+abbrev pub rust-block : Host → List ℕ → ℕ → ℕ → Option Block
+rust-block h guest pc limit = compile-native-block rust 64 h guest pc (limit-at (fence 64 h guest pc limit) limit)
+
+-- a load from slot 0, LDR of any register with base X0 and the slot offset, is compared as MOVZ with 0 into that
+-- register (document 02, No. 6)
+abbrev pub without-slot-0 : ℕ → ℕ → ℕ
+without-slot-0 offset w = cond (eqb (w / 32) (ldr-x 0 0 offset / 32)) (movz (w % 32) 0) w
+
+-- the bytes and the count that translation answered
+pub record RustBlock (h : Host) (guest : List ℕ) (pc limit : ℕ) (block : List ℕ) (count : ℕ) : Type 0 where
+  -- the Rust has a block there
+  pub native : Block
+  pub is : rust-block h guest pc limit ≡ some native
+  -- of the same count
+  pub counts : native .count ≡ count
+  -- and of the same words, but for each load from slot 0
+  pub same : block ≡ bytes (map (without-slot-0 (h .«slot_offset»)) (words (native .code)))
