@@ -236,13 +236,9 @@ module _ (h : Host) (hm : h .«memory_helper» < 2 ^ 64) (h32 : h .helper32 < 2 
     slot-apart n hn (inl e) = inl (omega (arith, e, ε .inside n hn, σ .inside))
     slot-apart n hn (inr e) = inr (omega (arith, e, ε .inside n hn, σ .inside))
 
-    slot-kept : (n : ℕ) → n < 32 → load 8 (saved .mem) (place s o n) ≡ load 8 (goes .0) (place s o n)
-    slot-kept n hn =
-        load-other 8 (goes .0) (cell s) (reg passed 30) (place s o n) (omega (arith, at-cell)) (rw (goes .2 .size) (omega (arith, ε .inside n hn))) (slot-apart n hn (σ .apart n hn))
-
     slot-holds : (n : ℕ) → 1 ≤ n → n < 32 → load 8 (saved .mem) (place s o n) ≡ getD (g .hart .x) n 0
     slot-holds n pn hn =
-        slot-kept n hn
+        load-other 8 (goes .0) (cell s) (reg passed 30) (place s o n) (omega (arith, at-cell)) (rw (goes .2 .size) (omega (arith, ε .inside n hn))) (slot-apart n hn (σ .apart n hn))
         ∙ goes .2 .holds n pn hn
         ∙ ap (λ (l : List ℕ). getD l n 0) (ap (λ (z : Model). z .slots) u-is ∙ a .fine .slots v ∙ y .slots)
 
@@ -334,7 +330,6 @@ module _ (h : Host) (hm : h .«memory_helper» < 2 ^ 64) (h32 : h .helper32 < 2 
           instructions = omega (arith, y .count);
           before = y .why;
           slots = slot-holds;
-          slot-0 = slot-kept 0 (omega arith) ∙ goes .2 .first;
           arguments = λ k l. other address k (omega (arith, l, a .few)) ∙ argument k l;
           x16 = other address 16 (omega arith) ∙ rw (← u-is) at (a .x16);
           sp = refl;

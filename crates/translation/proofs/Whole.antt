@@ -139,7 +139,6 @@ module _ (h : Host) (pc limit : ℕ) (guest : List ℕ) (hb : Bytes guest) (hp :
           x0 = getD-tab 31 _ 0 (omega arith) ∙ does .next;
           x1 = getD-tab 31 _ 1 (omega arith);
           slots = λ n pn hn. goes .2 .holds n pn hn ∙ ap (λ (l : List ℕ). getD l n 0) (does .slots);
-          slot-0 = goes .2 .first;
           size = goes .2 .size;
           memory = λ j o. goes .2 .outside j o;
           base = refl;

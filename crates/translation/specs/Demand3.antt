@@ -42,9 +42,9 @@ pub record Entry (offset : ℕ) (s : State) (x : List ℕ) : Type 0 where
   pub guest : length x ≡ 32
   pub starts : (n : ℕ) → 1 ≤ n → n < 32 → getD x n 0 ≡ load 8 (s .mem) (place s offset n)
 
--- byte j of memory lies in no slot
+-- byte j of memory lies in none of slots 1 to 31; slot 0 is other memory (document 02, No. 6)
 abbrev pub Outside : State → ℕ → ℕ → Type 0
-Outside s offset j = (n : ℕ) → n < 32 → (j < place s offset n) ⊎ (place s offset n + 8 ≤ j)
+Outside s offset j = (n : ℕ) → 1 ≤ n → n < 32 → (j < place s offset n) ⊎ (place s offset n + 8 ≤ j)
 
 -- the run r of a block of so many words from s on, beside the guest's run g; count: what translation answered
 pub record Ends (offset : ℕ) (s : State) (words count : ℕ) (r : A64.Ran) (g : RV.Ran) : Type 0 where
@@ -57,8 +57,7 @@ pub record Ends (offset : ℕ) (s : State) (words count : ℕ) (r : A64.Ran) (g 
   pub x0 : reg (r .state) 0 ≡ g .hart .pc
   pub x1 : reg (r .state) 1 ≡ count
   pub slots : (n : ℕ) → 1 ≤ n → n < 32 → load 8 (r .state .mem) (place s offset n) ≡ getD (g .hart .x) n 0
-  -- slot 0, all other memory, SP, X2 to X8 and X18 to X30 are as at entry
-  pub slot-0 : load 8 (r .state .mem) (place s offset 0) ≡ load 8 (s .mem) (place s offset 0)
+  -- all other memory, SP, X2 to X8 and X18 to X30 are as at entry
   pub size : length (r .state .mem) ≡ length (s .mem)
   pub memory : (j : ℕ) → Outside s offset j → getD (r .state .mem) j 0 ≡ getD (s .mem) j 0
   pub base : r .state .base ≡ s .base

@@ -143,9 +143,8 @@ pub record Calls (h : Host) (guest : List ℕ) (start : ℕ) (block : List ℕ) 
   -- the guest does the count less one, and stands before the helper's instruction
   pub instructions : g .count + 1 ≡ count
   pub before : g .stop ≡ Stop.Helper
-  -- slots 1 to 31 hold the registers after the prefix, slot 0 is as at entry
+  -- slots 1 to 31 hold the registers after the prefix
   pub slots : (n : ℕ) → 1 ≤ n → n < 32 → load 8 (r .state .mem) (place s (h .«slot_offset») n) ≡ getD (g .hart .x) n 0
-  pub slot-0 : load 8 (r .state .mem) (place s (h .«slot_offset») 0) ≡ load 8 (s .mem) (place s (h .«slot_offset») 0)
   -- the argument registers are as document 01 lays them out, X16 is the helper's address
   pub arguments : (k : ℕ) → k < length (called h guest start s g .arguments) → reg (r .state) k ≡ getD (called h guest start s g .arguments) k 0
   pub x16 : reg (r .state) 16 ≡ called h guest start s g .helper
@@ -153,7 +152,7 @@ pub record Calls (h : Host) (guest : List ℕ) (start : ℕ) (block : List ℕ) 
   pub sp : r .state .sp ≡ lowered s
   pub saved : load 8 (r .state .mem) (cell s) ≡ reg s 30
   pub x30 : reg (r .state) 30 ≡ wrap (address + 4 * r .steps)
-  -- X18 to X29 and all memory outside the slots and those 16 bytes are as at entry
+  -- X18 to X29 and all memory outside those slots and those 16 bytes are as at entry
   pub high : (k : ℕ) → 18 ≤ k → k ≤ 29 → reg (r .state) k ≡ reg s k
   pub size : length (r .state .mem) ≡ length (s .mem)
   pub memory : (j : ℕ) → Outside s (h .«slot_offset») j → Beside s j → getD (r .state .mem) j 0 ≡ getD (s .mem) j 0
