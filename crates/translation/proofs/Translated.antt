@@ -154,6 +154,6 @@ module _ (h : Host) (pc limit : ℕ) (guest out : List ℕ) (hb : Bytes guest) (
       record {
         native = block-of rust h W;
         is = no-block-with-fence rust (max-instrs - 1) h guest pc limit hp ∙ rw (a r e z .block) refl;
-        counts = rw (r-is r e z) refl;
+        counts = sym (ap (λ (r : Result). r .answer .count) (r-is r e z));
         same = code r e z ∙ ap bytes (as-rust h hm h32 h16 pc limit guest hb hl hp (even r e z) (offset r e z .1) (offset r e z .0));
       }
