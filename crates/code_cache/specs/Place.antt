@@ -1,10 +1,11 @@
 -- `alloc` of the Rust's code cache, carried over, and document 01's operation Place around it.
 use Prim.Native.Nat.{ℕ, _+_, _*_, _/_}
 use mathlib.Core.Bool.{cond}
-use mathlib.Core.List.{List, _++_}
+use mathlib.Core.List.{List}
 use mathlib.Core.Option.{Option, none, some}
-use lib.ListN.{length, take, drop}
+use lib.ListN.{length}
 use lib.Dec.{ltb}
+use Rattle.le.specs.Le.{splice}
 use Rattle.rules.specs.Refusals as Refusals
 use Rattle.code_cache.specs.declared.Placed.{Placed}
 
@@ -32,7 +33,7 @@ alloc c code =
     cond (ltb (length (c .bytes)) (end c code)) none
     (some (record {
       start = aligned c;
-      cache = record { bytes = take (aligned c) (c .bytes) ++ code ++ drop (end c code) (c .bytes); used = end c code };
+      cache = record { bytes = splice (c .bytes) (aligned c) code; used = end c code };
     }))
 
 -- ---- Place: its answer, and the bytes of the store afterwards

@@ -1,8 +1,8 @@
 // Operation Place: a block's bytes after what a store holds.
 ghost use mathlib.Core.Path.{_≡_};
-ghost use mathlib.Core.List.{_++_};
 ghost use Prim.Native.Nat.{_+_, _≤_};
-ghost use lib.ListN.{length, take, drop};
+ghost use lib.ListN.{length};
+ghost use Rattle.le.specs.Le.{splice};
 ghost use Rattle.code_cache.specs.Place as P;
 use rules::refusals;
 
@@ -16,7 +16,7 @@ pub struct Placed {
 // The bytes of `code` over those of `store` from `at` on.
 pub fn copy(store: &mut [u8], at: usize, code: &[u8])
     requires { ⌜ at + length (now code) ≤ length (now store) ⌝ }
-    ensures { λ r. ⌜ now (store .exit) ≡ take at (now (store .entry)) ++ now (code .entry) ++ drop (at + length (now (code .entry))) (now (store .entry)) ⌝ }
+    ensures { λ r. ⌜ now (store .exit) ≡ splice (now (store .entry)) at (now (code .entry)) ⌝ }
 {
     let n = code.len();
     let mut i = 0;

@@ -26,6 +26,10 @@ unfoldable pub store : ℕ → List ℕ → ℕ → ℕ → List ℕ
 unfolding bytes
 store k m i v = take i m ++ (bytes k v ++ drop (i + k) m)
 
+-- m with the bytes s over its own from at on
+unfoldable pub splice : List ℕ → ℕ → List ℕ → List ℕ
+splice m at s = take at m ++ (s ++ drop (at + length s) m)
+
 -- ---- numbers of k bytes in a row
 
 -- the first n numbers of m

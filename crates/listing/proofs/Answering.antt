@@ -8,8 +8,8 @@ use native.Mathlib.Omega.{arith}
 use lib.ListN.{length, drop}
 use borrow.Author.Tests.{ne-eqb, eq-eqb, lt-ltb, le-ltb}
 use Rattle.rules.specs.Limits.{longest-line}
-use Rattle.le.specs.Le.{words}
-use Rattle.ascii.specs.Parts.{over, Put}
+use Rattle.le.specs.Le.{words, splice}
+use Rattle.ascii.specs.Parts.{Put}
 use Rattle.listing.specs.declared.Listed.{Listed}
 use Rattle.listing.specs.Listing.{block-lines, listing, any-outside, result, list, Outside, Lists}
 use Rattle.listing.proofs.Lines.{rewritten}
@@ -55,7 +55,7 @@ module _ (block output : List ℕ) where
             (rw (eq-eqb (length block % 4) 0 whole, le-ltb (2 ^ 32) (length block) short, inside, lt-ltb (length output) (length (listing (block-lines block))) h))
 
         pub listed : (output′ : List ℕ) (r : ℕ) → Put output 0 (listing (block-lines block)) output′ r → Lists block output (answer 0 r 0) output′
-        unfolding list over
+        unfolding list splice
         listed output′ r p =
             let s = listing (block-lines block) in
             let z : 0 + length s ≡ length s = zero-add (length s) in

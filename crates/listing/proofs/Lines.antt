@@ -7,10 +7,10 @@ use native.Mathlib.Nat.{mul-suc}
 use native.Mathlib.Numerals.{add-one}
 use native.Mathlib.Omega.{arith}
 use lib.ListN.{length, drop, length-append}
-use Rattle.le.specs.Le.{words, load}
+use Rattle.le.specs.Le.{words, load, splice}
+use Rattle.le.proofs.Splices.{splice-append}
 use Rattle.le.proofs.Lists.{numbers-at, numbers-over}
-use Rattle.ascii.specs.Parts.{over, Put}
-use Rattle.ascii.proofs.Writing.{over-append}
+use Rattle.ascii.specs.Parts.{Put}
 use Rattle.ascii.proofs.Numbers.{hex-length}
 use Rattle.a64.specs.declared.Form.{Form}
 use Rattle.a64.specs.declared.Form.the-variants.{DataProcessing, Ldr, Str, Movz, Movk, Cmp, Csel, Sxtw, AddSp, SubSp, Blr, Ret, Unreadable}
@@ -161,11 +161,11 @@ module _ (block : List ℕ) where
   ended-outside i h = rw (ended i h)
 
   -- what is left to write, after one line more
-  pub over-next : {m m′ : List ℕ} {at r : ℕ} (i : ℕ) → i < length block / 4 → Put m at (line (here i)) m′ r
-      → over m′ r (listing (lines-from block (i + 1))) ≡ over m at (listing (lines-from block i))
-  over-next {m} {m′} {at} {r} i h p =
+  pub splice-next : {m m′ : List ℕ} {at r : ℕ} (i : ℕ) → i < length block / 4 → Put m at (line (here i)) m′ r
+      → splice m′ r (listing (lines-from block (i + 1))) ≡ splice m at (listing (lines-from block i))
+  splice-next {m} {m′} {at} {r} i h p =
       rw (next-listing i h, p .written, p .next)
-      (over-append m at (line (here i)) (listing (lines-from block (i + 1))) (omega (arith, p .room)))
+      (splice-append m at (line (here i)) (listing (lines-from block (i + 1))) (omega (arith, p .room)))
 
 -- ---- the fields, written again
 

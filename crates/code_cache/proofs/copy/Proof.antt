@@ -1,10 +1,12 @@
-use lib.ListN.{length}
+use lib.ListN.{length, take, drop}
 use native.Mathlib.Omega.{arith}
 use borrow.Author.Needs.{needs}
-use Prim.Native.Nat.{_≤_, _-_}
+use Prim.Native.Nat.{ℕ, _+_, _≤_, _-_}
 use mathlib.Core.Path.{_≡_}
+use mathlib.Core.List.{List, append-assoc}
 use native.Mathlib.Numerals.{add-one}
 use lib.Seq.{paste, paste-zero, paste-suc, length-paste, take-length}
+use Rattle.le.specs.Le.{splice}
 use Rattle.code_cache.proofs.copy.Statement.{statement}
 use Rattle.code_cache.proofs.copy.Tie as tie
 
@@ -37,12 +39,17 @@ same-length c =
     let l = c .before .loop in
     rw (l .inv .1) (length-paste (a .store .now) (a .at) (a .code .now) (l .i) (omega arith) (omega arith))
 
+-- all of the code
+whole : (m : List ℕ) (at : ℕ) (s : List ℕ) → paste m at s (length s) ≡ splice m at s
+unfolding splice
+whole m at s = rw (take-length s) (append-assoc (take at m) s (drop (at + length s) m))
+
 returns : tie.Need-returns Inv-loop μ-loop
 returns c =
     let a = c .before .before .args in
     let l = c .before .loop in
     let e : l .i ≡ length (a .code .now) = omega arith in
-    rw (l .inv .1, e, take-length)
+    rw (l .inv .1, e) (whole (a .store .now) (a .at) (a .code .now))
 
 pub copy-spec : {M : Type 1} → statement M
 copy-spec =

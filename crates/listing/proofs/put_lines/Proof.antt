@@ -4,15 +4,15 @@ use Prim.Native.Nat.{_≤_, _-_, _/_, _+_}
 use mathlib.Core.Path.{_≡_, refl, sym, ap, _∙_}
 use mathlib.Core.Bool.{false}
 use lib.ListN.{length}
-use Rattle.ascii.specs.Parts.{over}
-use Rattle.ascii.proofs.Writing.{over-nothing}
+use Rattle.le.specs.Le.{splice}
+use Rattle.le.proofs.Splices.{splice-nothing}
 use Rattle.listing.specs.Listing.{block-lines, listing, any-outside}
-use Rattle.listing.proofs.Lines.{lines-from, inside, next-length, ended-listing, over-next}
+use Rattle.listing.proofs.Lines.{lines-from, inside, next-length, ended-listing, splice-next}
 use Rattle.listing.proofs.put_lines.Statement.{statement}
 use Rattle.listing.proofs.put_lines.Tie as tie
 
 abbrev Inv-loop : tie.InvT-loop
-Inv-loop block out₀ count at₀ i₀ out at i = (count ≡ length block / 4) × (i ≤ count) × (any-outside (lines-from block i) ≡ false) × (at + length (listing (lines-from block i)) ≡ length (listing (block-lines block))) × (length out ≡ length out₀) × (over out at (listing (lines-from block i)) ≡ over out₀ 0 (listing (block-lines block)))
+Inv-loop block out₀ count at₀ i₀ out at i = (count ≡ length block / 4) × (i ≤ count) × (any-outside (lines-from block i) ≡ false) × (at + length (listing (lines-from block i)) ≡ length (listing (block-lines block))) × (length out ≡ length out₀) × (splice out at (listing (lines-from block i)) ≡ splice out₀ 0 (listing (block-lines block)))
 
 abbrev μ-loop : tie.MeasureT-loop
 μ-loop block out₀ count at₀ i₀ out at i = count - i
@@ -37,7 +37,7 @@ loop-again c =
       inside b (l .i) (omega arith) (l .inv .2) .1,
       omega (arith, p .next),
       c .before .before .put-line .kept .0 ∙ l .inv .4,
-      over-next b (l .i) (omega arith) p ∙ l .inv .5,
+      splice-next b (l .i) (omega arith) p ∙ l .inv .5,
     )
 
 returns : tie.Need-returns Inv-loop μ-loop
@@ -46,7 +46,7 @@ returns c =
     let l = c .before .loop in
     let e = ended-listing b (l .i) (omega arith) in
     record {
-      written = sym (over-nothing _ (l .at)) ∙ rw e at (l .inv .5);
+      written = sym (splice-nothing _ (l .at)) ∙ rw e at (l .inv .5);
       next = omega (arith, ap length e);
       room = omega arith;
     }
