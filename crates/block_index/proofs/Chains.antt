@@ -11,36 +11,36 @@ use lib.Dec.{eqb, ltb}
 use lib.ListN.{length}
 use borrow.Author.Tests.{eq-eqb, ne-eqb}
 use Rattle.block_log.specs.declared.Entry.{Entry}
-use Rattle.block_log.specs.Log.{index-bytes, bucket, cell, used, emptied, at, next-at, entry-at, behind, pushed}
+use Rattle.block_log.specs.Log.{index-bytes, bucket, cell, used, emptied, at, next-at, entry-at, fresh, pushed}
 use Rattle.block_log.proofs.Laws.{Same, both, Fits, same-within, marked, marks, emptied-within, emptied-cell, bucket-lt, pushes}
 use Rattle.block_log.proofs.Tests.{by-eqb}
 use Rattle.block_index.proofs.Steps.{walk-past}
-use Rattle.block_index.specs.Index.{walk, swept-at, swept, refilled-at, refilled}
+use Rattle.block_index.specs.Index.{walk, swept-at, swept, reinserted-at, reinserted}
 
 -- ---- the list
 
--- the newest place of a bucket
-abbrev pub newest : ℕ → List Entry → ℕ
-newest b [] = 0
-newest b (e ∷ es) = cond (eqb (bucket (e .space) (e .pc)) b) (suc (length es)) (newest b es)
+-- the newest slot of a bucket
+abbrev pub head : ℕ → List Entry → ℕ
+head b [] = 0
+head b (e ∷ es) = cond (eqb (bucket (e .space) (e .pc)) b) (suc (length es)) (head b es)
 
--- each place has its entry and the next place of its chain
+-- each slot has its entry and the next slot of its chain
 abbrev pub Rows : List ℕ → List Entry → Type 0
 Rows m [] = Unit {0}
 Rows m (e ∷ es) =
-    (entry-at m (suc (length es)) ≡ e) × (next-at m (suc (length es)) ≡ newest (bucket (e .space) (e .pc)) es) × Rows m es
+    (entry-at m (suc (length es)) ≡ e) × (next-at m (suc (length es)) ≡ head (bucket (e .space) (e .pc)) es) × Rows m es
 
 pub record Lists (m : List ℕ) (es : List Entry) : Type 0 where
   pub long : length m ≡ index-bytes
   pub last : used m ≡ length es
-  pub cells : (b : ℕ) → b < 2048 → cell m b ≡ newest b es
+  pub cells : (b : ℕ) → b < 2048 → cell m b ≡ head b es
   pub rows : Rows m es
 
-pub newest-le : (b : ℕ) (es : List Entry) → newest b es ≤ length es
-newest-le b [] = omega arith
-newest-le b (e ∷ es) =
-    let h = newest-le b es in
-    by-eqb (λ (t : Bool). cond t (suc (length es)) (newest b es) ≤ suc (length es)) (bucket (e .space) (e .pc)) b (λ q. omega arith) (λ q. omega arith)
+pub head-le : (b : ℕ) (es : List Entry) → head b es ≤ length es
+head-le b [] = omega arith
+head-le b (e ∷ es) =
+    let h = head-le b es in
+    by-eqb (λ (t : Bool). cond t (suc (length es)) (head b es) ≤ suc (length es)) (bucket (e .space) (e .pc)) b (λ q. omega arith) (λ q. omega arith)
 
 rows-same : (m m′ : List ℕ) (es : List Entry) → ((q : ℕ) → 0 < q → q ≤ length es → Same m m′ q) → Rows m es → Rows m′ es
 rows-same m m′ [] s r = tt
@@ -57,7 +57,7 @@ empties m l =
 pub pushing : (m : List ℕ) (es : List Entry) (e : Entry) → Lists m es → length es < 1023 → Fits e → Lists (pushed m e) (e ∷ es)
 pushing m es e g h f =
     let r = pushes m e (g .long) f in
-    let p : behind m ≡ suc (length es) = omega (arith, g .last) in
+    let p : fresh m ≡ suc (length es) = omega (arith, g .last) in
     let c = bucket (e .space) (e .pc) in
     record {
       long = r .long;
@@ -66,7 +66,7 @@ pushing m es e g h f =
       rows = (
         rw p at (r .entry),
         (rw p at (r .next)) ∙ g .cells c (bucket-lt (e .space) (e .pc)),
-        rows-same m (pushed m e) es (λ q a i. r .places q a (omega arith) (inl (omega arith))) (g .rows),
+        rows-same m (pushed m e) es (λ q a i. r .slots q a (omega arith) (inl (omega arith))) (g .rows),
       );
     }
 
@@ -88,15 +88,15 @@ module _ (m : List ℕ) (space pc : ℕ) where
       (λ q. by-eqb (λ (t : Bool). (t && live) ≡ false) (x .pc) pc (λ r. absurd (h (rw (q, r)))) (λ r. refl)) (λ q. refl)
 
   pub walk-step : (x : Entry) (xs : List Entry) → Rows m (x ∷ xs)
-      → walk m space pc (suc (length xs)) (newest (bucket space pc) (x ∷ xs))
-      ≡ cond (has space pc x) (suc (length xs)) (walk m space pc (length xs) (newest (bucket space pc) xs))
+      → walk m space pc (suc (length xs)) (head (bucket space pc) (x ∷ xs))
+      ≡ cond (has space pc x) (suc (length xs)) (walk m space pc (length xs) (head (bucket space pc) xs))
   walk-step x xs r =
       let n = length xs in
-      let w = walk m space pc n (newest (bucket space pc) xs) in
-      by-eqb (λ (t : Bool). walk m space pc (suc n) (cond t (suc n) (newest (bucket space pc) xs)) ≡ cond (has space pc x) (suc n) w)
+      let w = walk m space pc n (head (bucket space pc) xs) in
+      by-eqb (λ (t : Bool). walk m space pc (suc n) (cond t (suc n) (head (bucket space pc) xs)) ≡ cond (has space pc x) (suc n) w)
       (bucket (x .space) (x .pc)) (bucket space pc)
       (λ q. walk-here n ∙ rw (r .1, q) (ap (λ (y : Entry). cond (has space pc y) (suc n) w) (r .0)))
-      (λ q. walk-past m space pc n (newest (bucket space pc) xs) (newest-le (bucket space pc) xs) ∙ rw (other-key x q))
+      (λ q. walk-past m space pc n (head (bucket space pc) xs) (head-le (bucket space pc) xs) ∙ rw (other-key x q))
 
 -- ---- the sweep
 
@@ -117,9 +117,9 @@ length-sweep : (e : Entry) (room : ℕ) (es : List Entry) → length (sweep e ro
 length-sweep e room [] = refl
 length-sweep e room (x ∷ xs) = ap suc (length-sweep e (left e room x) xs)
 
-newest-sweep : (b : ℕ) (e : Entry) (room : ℕ) (es : List Entry) → newest b (sweep e room es) ≡ newest b es
-newest-sweep b e room [] = refl
-newest-sweep b e room (x ∷ xs) = rw (length-sweep e (left e room x) xs, newest-sweep b e (left e room x) xs)
+head-sweep : (b : ℕ) (e : Entry) (room : ℕ) (es : List Entry) → head b (sweep e room es) ≡ head b es
+head-sweep b e room [] = refl
+head-sweep b e room (x ∷ xs) = rw (length-sweep e (left e room x) xs, head-sweep b e (left e room x) xs)
 
 record Sweeps (m m′ : List ℕ) (k : ℕ) (es : List Entry) : Type 0 where
   long : length m′ ≡ index-bytes
@@ -136,15 +136,15 @@ sweeps m e room (x ∷ xs) l h r =
     let y = entry-at m p in
     let n = swept-at m e room p in
     let c = marks m l p h (gone e room y) in
-    let s = sweeps n e (left e room y) xs (c .long) (omega arith) (rows-same m n xs (λ q a i. c .places q (omega arith) (inl (omega arith))) (r .2)) in
+    let s = sweeps n e (left e room y) xs (c .long) (omega arith) (rows-same m n xs (λ q a i. c .slots q (omega arith) (inl (omega arith))) (r .2)) in
     let k = length-sweep e (left e room y) xs in
     rw (← r .0) record {
       long = s .long;
       cells = λ b g. s .cells b g ∙ c .cells b g;
-      above = λ q g i. both (c .places q i (inr (omega arith))) (s .above q (omega arith) i);
+      above = λ q g i. both (c .slots q i (inr (omega arith))) (s .above q (omega arith) i);
       rows = (
         rw k (s .above p (omega arith) h .entry ∙ c .entry),
-        rw (k, newest-sweep (bucket (y .space) (y .pc)) e (left e room y) xs) (s .above p (omega arith) h .next ∙ c .next ∙ (rw (← r .0) at (r .1))),
+        rw (k, head-sweep (bucket (y .space) (y .pc)) e (left e room y) xs) (s .above p (omega arith) h .next ∙ c .next ∙ (rw (← r .0) at (r .1))),
         s .rows,
       );
     }
@@ -155,44 +155,44 @@ sweeping m e room es g =
     rw (g .last) record {
       long = s .long;
       last = s .cells 2048 (omega arith) ∙ g .last ∙ sym (length-sweep e room es);
-      cells = λ b h. s .cells b (omega arith) ∙ g .cells b h ∙ sym (newest-sweep b e room es);
+      cells = λ b h. s .cells b (omega arith) ∙ g .cells b h ∙ sym (head-sweep b e room es);
       rows = s .rows;
     }
 
--- ---- the refilling
+-- ---- the reinserting
 
-refilled-more : (m : List ℕ) (k p : ℕ) → refilled m (suc k) p ≡ refilled-at (refilled m k p) (p + k)
-unfolding refilled
-refilled-more m zero p = rw (add-zero p)
-refilled-more m (suc k) p = let e : p + 1 + k ≡ p + suc k = omega arith in rw (← e) (refilled-more (refilled-at m p) k (p + 1))
+reinserted-more : (m : List ℕ) (k p : ℕ) → reinserted m (suc k) p ≡ reinserted-at (reinserted m k p) (p + k)
+unfolding reinserted
+reinserted-more m zero p = rw (add-zero p)
+reinserted-more m (suc k) p = let e : p + 1 + k ≡ p + suc k = omega arith in rw (← e) (reinserted-more (reinserted-at m p) k (p + 1))
 
--- the log, with the places behind the first k as they were
-pub record Refills (m m′ : List ℕ) (k : ℕ) (es : List Entry) : Type 0 where
+-- the log, with the slots after the first k as they were
+pub record Reinserts (m m′ : List ℕ) (k : ℕ) (es : List Entry) : Type 0 where
   pub lists : Lists m′ es
   pub above : (q : ℕ) → k < q → q ≤ 1023 → Same m m′ q
 
-pub refilled-from : (m : List ℕ) → length m ≡ index-bytes → Refills m (emptied m) 0 []
-refilled-from m l = record { lists = empties m l; above = λ q a b. same-within m (emptied m) 0 4098 l (emptied-within m l) q b (inr (omega arith)) }
+pub reinserted-from : (m : List ℕ) → length m ≡ index-bytes → Reinserts m (emptied m) 0 []
+reinserted-from m l = record { lists = empties m l; above = λ q a b. same-within m (emptied m) 0 4098 l (emptied-within m l) q b (inr (omega arith)) }
 
--- one place more, without a block or with one
+-- one slot more, without a block or with one
 module _ (m n : List ℕ) (x : Entry) (xs es : List Entry) (r : Rows m (x ∷ xs)) (i : length xs < 1023)
-    (s : Refills m (refilled n (length xs) 1) (length xs) es) where
-  refilled-next : refilled n (suc (length xs)) 1 ≡ cond (eqb (x .length) 0) (refilled n (length xs) 1) (pushed (refilled n (length xs) 1) x)
-  refilled-next =
-      refilled-more n (length xs) 1
+    (s : Reinserts m (reinserted n (length xs) 1) (length xs) es) where
+  reinserted-next : reinserted n (suc (length xs)) 1 ≡ cond (eqb (x .length) 0) (reinserted n (length xs) 1) (pushed (reinserted n (length xs) 1) x)
+  reinserted-next =
+      reinserted-more n (length xs) 1
       ∙ rw (one-add (length xs))
-      (ap (λ (e : Entry). cond (eqb (e .length) 0) (refilled n (length xs) 1) (pushed (refilled n (length xs) 1) e))
+      (ap (λ (e : Entry). cond (eqb (e .length) 0) (reinserted n (length xs) 1) (pushed (reinserted n (length xs) 1) e))
       (s .above (suc (length xs)) (omega arith) i .entry ∙ r .0))
 
-  pub refill-none : x .length ≡ 0 → Refills m (refilled n (suc (length xs)) 1) (suc (length xs)) es
-  refill-none z =
-      rw (refilled-next, eq-eqb (x .length) 0 z) record { lists = s .lists; above = λ q a b. s .above q (omega arith) b }
+  pub reinsert-none : x .length ≡ 0 → Reinserts m (reinserted n (suc (length xs)) 1) (suc (length xs)) es
+  reinsert-none z =
+      rw (reinserted-next, eq-eqb (x .length) 0 z) record { lists = s .lists; above = λ q a b. s .above q (omega arith) b }
 
-  pub refill-one : 0 < x .length → length es ≤ length xs → Fits x → Refills m (refilled n (suc (length xs)) 1) (suc (length xs)) (x ∷ es)
-  refill-one z h f =
-      rw (refilled-next, ne-eqb (x .length) 0 (λ e. omega arith)) record {
-        lists = pushing (refilled n (length xs) 1) es x (s .lists) (omega arith) f;
+  pub reinsert-one : 0 < x .length → length es ≤ length xs → Fits x → Reinserts m (reinserted n (suc (length xs)) 1) (suc (length xs)) (x ∷ es)
+  reinsert-one z h f =
+      rw (reinserted-next, ne-eqb (x .length) 0 (λ e. omega arith)) record {
+        lists = pushing (reinserted n (length xs) 1) es x (s .lists) (omega arith) f;
         above = λ q a b.
             both (s .above q (omega arith) b)
-            (pushes (refilled n (length xs) 1) x (s .lists .long) f .places q (omega arith) b (inr (omega (arith, s .lists .last))));
+            (pushes (reinserted n (length xs) 1) x (s .lists .long) f .slots q (omega arith) b (inr (omega (arith, s .lists .last))));
       }

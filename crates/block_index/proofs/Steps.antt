@@ -9,9 +9,9 @@ use lib.Dec.{eqb, ltb}
 use lib.ListN.{length}
 use borrow.Author.Tests.{eq-eqb, ne-eqb, lt-ltb, le-ltb, ltb-false}
 use Rattle.block_log.specs.declared.Entry.{Entry}
-use Rattle.block_log.specs.Log.{places, bucket, cell, used, start-at, length-at, next-at, count-at}
+use Rattle.block_log.specs.Log.{slots, bucket, cell, used, start-at, length-at, next-at, count-at}
 use Rattle.block_log.proofs.Tests.{by-eqb, by-ltb}
-use Rattle.block_index.specs.Index.{key-at, block-at, walk, place-of, found-at, lookup, start-for, overlap-at, puts-out, swept-at, room-at, swept, refilled-at, refilled, result, placed-at, place}
+use Rattle.block_index.specs.Index.{key-at, block-at, walk, slot-of, found-at, lookup, last-end, start-for, overlap-at, evicts, swept-at, room-at, swept, reinserted-at, reinserted, result, placed-at, place}
 use Rattle.block_index.specs.Model as Model
 use Rattle.block_index.specs.declared.Found.{Found}
 
@@ -23,7 +23,7 @@ module _ (m : List ℕ) (space pc : ℕ) where
   walk-high zero p h = refl
   walk-high (suc k) p h = rw (ne-eqb p (suc k) (λ e. omega arith)) (walk-high k p (omega arith))
 
-  -- places above that from which the chain goes on are passed over
+  -- slots above that from which the chain goes on are passed over
   pub walk-past : (k p : ℕ) → p ≤ k → walk m space pc (suc k) p ≡ walk m space pc k p
   unfolding walk
   walk-past k p h = rw (ne-eqb p (suc k) (λ e. omega arith))
@@ -35,7 +35,7 @@ module _ (m : List ℕ) (space pc : ℕ) where
   walk-down : (k p : ℕ) → p ≤ k → walk m space pc k p ≡ walk m space pc p p
   walk-down k p h = let e : k ≡ k - p + p = omega arith in rw e (walk-up (k - p) p p (omega arith))
 
-  pub walk-start : (b p : ℕ) → b ≡ bucket space pc → p ≡ cell m b → p < places → walk m space pc p p ≡ place-of m space pc
+  pub walk-start : (b p : ℕ) → b ≡ bucket space pc → p ≡ cell m b → p < slots → walk m space pc p p ≡ slot-of m space pc
   walk-start b p eb ep h = rw (← eb, ← ep) (sym (walk-down 1023 p (omega arith)))
 
   pub walk-none : (p r : ℕ) → p ≡ 0 → walk m space pc p p ≡ r → 0 ≡ r
@@ -61,11 +61,11 @@ module _ (m : List ℕ) (space pc : ℕ) where
 found-zero : (m : List ℕ) (p : ℕ) → p ≡ 0 → Model.no-block ≡ found-at m p
 found-zero m p z = rw (eq-eqb p 0 z)
 
-found-place : (m : List ℕ) (p : ℕ) → (p ≡ 0 → ⊥)
+found-slot : (m : List ℕ) (p : ℕ) → (p ≡ 0 → ⊥)
     → _≡_ {A = Found} (record { refusal = 0; start = start-at m p; length = length-at m p; count = count-at m p }) (found-at m p)
-found-place m p h = rw (ne-eqb p 0 h)
+found-slot m p h = rw (ne-eqb p 0 h)
 
-module _ (m : List ℕ) (space pc p : ℕ) (e : p ≡ place-of m space pc) where
+module _ (m : List ℕ) (space pc p : ℕ) (e : p ≡ slot-of m space pc) where
   pub found-none : p ≡ 0 → Model.no-block ≡ lookup m space pc
   unfolding lookup
   found-none z = found-zero m p z ∙ ap (λ (q : ℕ). found-at m q) e
@@ -73,7 +73,7 @@ module _ (m : List ℕ) (space pc p : ℕ) (e : p ≡ place-of m space pc) where
   pub found-some : (p ≡ 0 → ⊥)
       → _≡_ {A = Found} (record { refusal = 0; start = start-at m p; length = length-at m p; count = count-at m p }) (lookup m space pc)
   unfolding lookup
-  found-some h = found-place m p h ∙ ap (λ (q : ℕ). found-at m q) e
+  found-some h = found-slot m p h ∙ ap (λ (q : ℕ). found-at m q) e
 
 -- ---- refusal 15
 
@@ -96,15 +96,15 @@ module _ (m store : List ℕ) (space pc count : ℕ) (code : List ℕ) where
 
 -- ---- where a block goes
 
-module _ (m : List ℕ) (size n u s l : ℕ) (eu : u ≡ used m) (es : s ≡ start-at m u) (el : l ≡ length-at m u) where
-  pub start-none : u ≡ 0 → 0 ≡ start-for m size n
-  start-none h = rw (← eu, eq-eqb u 0 h)
+module _ (m : List ℕ) (bound u s l : ℕ) (eu : u ≡ used m) (es : s ≡ start-at m u) (el : l ≡ length-at m u) where
+  pub end-none : u ≡ 0 → 0 ≡ last-end m bound
+  end-none h = rw (← eu, eq-eqb u 0 h)
 
-  pub start-front : (u ≡ 0 → ⊥) → size < s + l + n → 0 ≡ start-for m size n
-  start-front h k = rw (← eu, ← es, ← el, ne-eqb u 0 h, lt-ltb size (s + l + n) k)
+  pub end-beyond : (u ≡ 0 → ⊥) → bound < s + l → 0 ≡ last-end m bound
+  end-beyond h k = rw (← eu, ← es, ← el, ne-eqb u 0 h, lt-ltb bound (s + l) k)
 
-  pub start-behind : (u ≡ 0 → ⊥) → s + l + n ≤ size → s + l ≡ start-for m size n
-  start-behind h k = rw (← eu, ← es, ← el, ne-eqb u 0 h, le-ltb size (s + l + n) k)
+  pub end-there : (u ≡ 0 → ⊥) → s + l ≤ bound → s + l ≡ last-end m bound
+  end-there h k = rw (← eu, ← es, ← el, ne-eqb u 0 h, le-ltb bound (s + l) k)
 
 -- ---- the sweep
 
@@ -112,8 +112,8 @@ module _ (m : List ℕ) (start end p s : ℕ) (es : s ≡ start-at m p) (h : s <
   pub overlap-before : start < s → true ≡ overlap-at m start end p
   overlap-before k = rw (← es, lt-ltb s end h, lt-ltb start (s + length-at m p) (omega arith))
 
-  pub overlap-behind : (l : ℕ) → l ≡ length-at m p → s ≤ start → ltb (start - s) l ≡ overlap-at m start end p
-  overlap-behind l el k =
+  pub overlap-after : (l : ℕ) → l ≡ length-at m p → s ≤ start → ltb (start - s) l ≡ overlap-at m start end p
+  overlap-after l el k =
       rw (← es, ← el, lt-ltb s end h)
       (by-ltb (λ (t : Bool). ltb (start - s) l ≡ t) start (s + l) (λ q. lt-ltb (start - s) l (omega arith)) (λ q. le-ltb (start - s) l (omega arith)))
 
@@ -124,7 +124,7 @@ either false true room h = let z : _≡_ {A = ℕ} 0 1 = cc in omega arith
 either false false zero h = let z : _≡_ {A = ℕ} 0 1 = cc in omega arith
 either false false (suc room) h = omega arith
 
-pub stays-room : (m : List ℕ) (e : Entry) (room p : ℕ) → puts-out m e room p ≡ false → 0 < room
+pub stays-room : (m : List ℕ) (e : Entry) (room p : ℕ) → evicts m e room p ≡ false → 0 < room
 stays-room m e room p h = either (key-at m (e .space) (e .pc) p) (overlap-at m (e .start) (e .start + e .length) p) room h
 
 pub swept-step : (m : List ℕ) (e : Entry) (room p : ℕ) → (p ≡ 0 → ⊥)
@@ -133,11 +133,11 @@ unfolding swept
 swept-step m e room zero h = absurd (h refl)
 swept-step m e room (suc k) h = let z : suc k - 1 ≡ k = omega arith in rw z
 
--- ---- the refill
+-- ---- the reinserting
 
-pub refilled-step : (m : List ℕ) (n p : ℕ) → p ≤ n → refilled m (n + 1 - p) p ≡ refilled (refilled-at m p) (n + 1 - (p + 1)) (p + 1)
-unfolding refilled
-refilled-step m n p h =
+pub reinserted-step : (m : List ℕ) (n p : ℕ) → p ≤ n → reinserted m (n + 1 - p) p ≡ reinserted (reinserted-at m p) (n + 1 - (p + 1)) (p + 1)
+unfolding reinserted
+reinserted-step m n p h =
     let a : n + 1 - p ≡ suc (n - p) = omega arith in
     let b : n + 1 - (p + 1) ≡ n - p = omega arith in
     rw (a, b)

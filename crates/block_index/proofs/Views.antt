@@ -16,9 +16,9 @@ use Rattle.block_log.proofs.Tests.{by-test}
 use Rattle.rules.specs.Refusals as Refusals
 use Rattle.block_index.specs.Model as Model
 use Rattle.block_index.specs.Model.{Block, end, overlap, without}
-use Rattle.block_index.specs.Index.{found-at, walk, refilled}
+use Rattle.block_index.specs.Index.{found-at, walk, reinserted}
 use Rattle.block_index.specs.History.{All, Holds}
-use Rattle.block_index.proofs.Chains.{Rows, newest, Refills, refill-none, refill-one, walk-step, sweep}
+use Rattle.block_index.proofs.Chains.{Rows, head, Reinserts, reinsert-none, reinsert-one, walk-step, sweep}
 
 abbrev pub entry-of : Block → Entry
 entry-of b = record { space = b .space; pc = b .pc; start = b .start; length = length (b .code); count = b .count }
@@ -42,6 +42,10 @@ found-at-is m n b h =
     rw (ne-eqb (suc n) 0 (λ e. omega arith))
     (ap (λ (e : Entry). record { refusal = Refusals.accepted; start = e .start; length = e .length; count = e .count }) h)
 
+abbrev pub having : List Entry → List Entry
+having [] = []
+having (x ∷ xs) = cond (eqb (x .length) 0) (having xs) (x ∷ having xs)
+
 module _ {size : ℕ} {store : List ℕ} where
   pub all-hold : {es : List Entry} {bs : List Block} → Views size store es bs → All (Holds store) bs
   all-hold none = tt
@@ -58,31 +62,37 @@ module _ {size : ℕ} {store : List ℕ} where
   together (dead z v) = together v
   together (live f v) = live f (together v)
 
+  -- the entries that have a block, as they stand
+  pub lives : {es : List Entry} {bs : List Block} → Views size store es bs → having es ≡ map entry-of bs
+  lives none = refl
+  lives (dead {x = x} z v) = rw (eq-eqb (x .length) 0 z) (lives v)
+  lives (live {b = b} f v) = rw (ne-eqb (length (b .code)) 0 (λ e. omega (arith, f .some))) (ap (λ (xs : List Entry). entry-of b ∷ xs) (lives v))
+
   -- ---- lookup
 
   pub finds : (m : List ℕ) (space pc : ℕ) {es : List Entry} {bs : List Block} → Views size store es bs → Rows m es
-      → found-at m (walk m space pc (length es) (newest (bucket space pc) es)) ≡ Model.lookup bs space pc
+      → found-at m (walk m space pc (length es) (head (bucket space pc) es)) ≡ Model.lookup bs space pc
   unfolding walk
   finds m space pc none r = refl
   finds m space pc (dead {x = x} {xs = xs} z v) r =
       rw (walk-step m space pc x xs r, eq-eqb (x .length) 0 z, and-false (eqb (x .space) space && eqb (x .pc) pc)) (finds m space pc v (r .2))
   finds m space pc (live {xs = xs} {b = b} {bs = bs} f v) r =
       rw (walk-step m space pc (entry-of b) xs r, ne-eqb (length (b .code)) 0 (λ e. omega (arith, f .some)), and-true (eqb (b .space) space && eqb (b .pc) pc))
-      (by-test (λ (t : Bool). found-at m (cond t (suc (length xs)) (walk m space pc (length xs) (newest (bucket space pc) xs))) ≡ cond t (Model.found b) (Model.lookup bs space pc))
+      (by-test (λ (t : Bool). found-at m (cond t (suc (length xs)) (walk m space pc (length xs) (head (bucket space pc) xs))) ≡ cond t (Model.found b) (Model.lookup bs space pc))
       (Model.has-key space pc b) (λ q. found-at-is m (length xs) b (r .0)) (λ q. finds m space pc v (r .2)))
 
-  -- ---- the refilling
+  -- ---- the reinserting
 
   pub fits : {b : Block} → size < 2 ^ 64 → Fine size store b → Fits (entry-of b)
   fits {b} h f = omega arith
 
-  pub refills : (m n : List ℕ) {es : List Entry} {bs : List Block} → Refills m n 0 [] → size < 2 ^ 64 → Views size store es bs
-      → Rows m es → length es ≤ 1023 → Refills m (refilled n (length es) 1) (length es) (map entry-of bs)
-  refills m n g h none r i = unfold refilled in g
-  refills m n g h (dead {x = x} {xs = xs} {bs = bs} z v) r i =
-      refill-none m n x xs (map entry-of bs) r i (refills m n g h v (r .2) (omega arith)) z
-  refills m n g h (live {xs = xs} {b = b} {bs = bs} f v) r i =
-      refill-one m n (entry-of b) xs (map entry-of bs) r i (refills m n g h v (r .2) (omega arith)) (f .some) (rw (length-map bs entry-of) (fewer v)) (fits h f)
+  pub reinserts : (m n : List ℕ) {es : List Entry} {bs : List Block} → Reinserts m n 0 [] → size < 2 ^ 64 → Views size store es bs
+      → Rows m es → length es ≤ 1023 → Reinserts m (reinserted n (length es) 1) (length es) (map entry-of bs)
+  reinserts m n g h none r i = unfold reinserted in g
+  reinserts m n g h (dead {x = x} {xs = xs} {bs = bs} z v) r i =
+      reinsert-none m n x xs (map entry-of bs) r i (reinserts m n g h v (r .2) (omega arith)) z
+  reinserts m n g h (live {xs = xs} {b = b} {bs = bs} f v) r i =
+      reinsert-one m n (entry-of b) xs (map entry-of bs) r i (reinserts m n g h v (r .2) (omega arith)) (f .some) (rw (length-map bs entry-of) (fewer v)) (fits h f)
 
 -- ---- the sweep
 

@@ -43,43 +43,22 @@ after-call s (place space pc count code) =
     record { index = r .index; store = r .store }
 after-call s (lookup space pc) = s
 
-abbrev pub after : State → List Call → State
-after s [] = s
-after s (c ∷ cs) = after (after-call s c) cs
-
 -- ---- the model
-
--- the new block of a placing
-abbrev pub block : ℕ → List Block → ℕ → ℕ → ℕ → List ℕ → Block
-block size bs space pc count code =
-    record { space = space; pc = pc; start = Model.start size bs (length code); count = count; code = code }
 
 abbrev pub blocks-call : ℕ → List Block → Call → List Block
 blocks-call size bs empty = []
 blocks-call size bs (place space pc count code) =
-    cond (Model.refused size (length code)) bs (Model.placed index-entries bs (block size bs space pc count code))
+    cond (Model.refused size (length code)) bs (Model.placed index-entries bs (Model.block size bs space pc count code))
 blocks-call size bs (lookup space pc) = bs
-
-abbrev pub blocks-after : ℕ → List Block → List Call → List Block
-blocks-after size bs [] = bs
-blocks-after size bs (c ∷ cs) = blocks-after size (blocks-call size bs c) cs
 
 -- ---- histories
 
--- an index of any bytes, emptied, with its store, and the calls since
-pub record History : Type 0 where
-  pub index : List ℕ
-  pub store : List ℕ
-  pub calls : List Call
-  pub index-length : length index ≡ index-bytes
-  pub store-length : length store < 2 ^ 64
-  pub fits : All Fits calls
-
-abbrev pub state : History → State
-state h = after (record { index = emptied (h .index); store = h .store }) (h .calls)
-
-abbrev pub blocks : History → List Block
-blocks h = blocks-after (length (h .store)) [] (h .calls)
+-- the states that calls lead to, with the model's blocks: an index of any bytes, emptied, with its store; and what a call
+-- makes of the last state
+pub data Reached (size : ℕ) : State → List Block → Type 0 where
+  begun : (index store : List ℕ) → length index ≡ index-bytes → length store ≡ size → size < 2 ^ 64
+      → Reached size (record { index = emptied index; store = store }) []
+  called : {s : State} {bs : List Block} → Reached size s bs → (c : Call) → Fits c → Reached size (after-call s c) (blocks-call size bs c)
 
 -- the store has a block's code
 abbrev pub Holds : List ℕ → Block → Type 0
@@ -92,17 +71,17 @@ pub record Looks (index : List ℕ) (space pc : ℕ) (r : Found) : Type 0 where
   -- for any bytes
   pub bytes : r ≡ Index.lookup index space pc
   -- after any calls: the block that was placed last under the key and not dropped
-  pub history : (h : History) → index ≡ state h .index → r ≡ Model.lookup (blocks h) space pc
+  pub history : {size : ℕ} {s : State} {bs : List Block} → Reached size s bs → index ≡ s .index → r ≡ Model.lookup bs space pc
   -- whose code the store has, as every block's
-  pub code : (h : History) → index ≡ state h .index → All (Holds (state h .store)) (blocks h)
+  pub code : {size : ℕ} {s : State} {bs : List Block} → Reached size s bs → index ≡ s .index → All (Holds (s .store)) bs
 
 -- of a placing in an index and a store, its answer, and both afterwards
 pub record Places (index store : List ℕ) (space pc count : ℕ) (code : List ℕ) (r : Placed) (index′ store′ : List ℕ) : Type 0 where
   -- for any bytes
   pub bytes : Index.result r index′ store′ ≡ Index.place index store space pc count code
   -- after any calls: where the block is, or its refusal
-  pub history : (h : History) → index ≡ state h .index → store ≡ state h .store
-      → r ≡ Model.place (length (h .store)) (blocks h) (length code)
+  pub history : {size : ℕ} {s : State} {bs : List Block} → Reached size s bs → index ≡ s .index → store ≡ s .store
+      → r ≡ Model.place size bs (length code)
   -- the store has the code of every block that is not dropped
-  pub kept : (h : History) → index ≡ state h .index → store ≡ state h .store
-      → All (Holds store′) (blocks-call (length (h .store)) (blocks h) (place space pc count code))
+  pub kept : {size : ℕ} {s : State} {bs : List Block} → Reached size s bs → index ≡ s .index → store ≡ s .store
+      → All (Holds store′) (blocks-call size bs (place space pc count code))

@@ -1,13 +1,14 @@
 -- What each operation of the index does to its bytes and the store's, for any bytes. specs/Log.antt of block_log has the layout.
 use Prim.Native.Nat.{ℕ, zero, suc, _+_, _-_}
 use mathlib.Core.Bool.{Bool, cond, not, _&&_, _||_}
-use mathlib.Core.List.{List, _++_}
+use mathlib.Core.List.{List}
 use lib.Dec.{eqb, ltb}
-use lib.ListN.{length, take, drop}
+use lib.ListN.{length}
+use Rattle.le.specs.Le.{splice}
 use Rattle.rules.specs.Limits.{index-entries}
 use Rattle.rules.specs.Refusals as Refusals
 use Rattle.block_log.specs.declared.Entry.{Entry}
-use Rattle.block_log.specs.Log.{places, bucket, cell, used, emptied, space-at, pc-at, start-at, length-at, next-at, count-at, entry-at, dropped, pushed}
+use Rattle.block_log.specs.Log.{slots, bucket, cell, used, emptied, space-at, pc-at, start-at, length-at, next-at, count-at, entry-at, dropped, pushed}
 use Rattle.block_index.specs.Model as Model
 use Rattle.block_index.specs.declared.Placed.{Placed}
 use Rattle.block_index.specs.declared.Found.{Found}
@@ -17,19 +18,19 @@ use Rattle.block_index.specs.declared.Found.{Found}
 abbrev pub key-at : List ℕ → ℕ → ℕ → ℕ → Bool
 key-at m space pc p = eqb (space-at m p) space && eqb (pc-at m p) pc
 
--- whether the block under a key stands at a place
+-- whether the block under a key stands at a slot
 abbrev pub block-at : List ℕ → ℕ → ℕ → ℕ → Bool
 block-at m space pc p = key-at m space pc p && not (eqb (length-at m p) 0)
 
--- the first place of a chain that has the block, 0 where none has: the chain goes on from place p at place k or below, and
--- its places' numbers fall
+-- the first slot of a chain that has the block, 0 where none has: the chain goes on from slot p at slot k or below, and
+-- its slots' numbers fall
 unfoldable pub walk : List ℕ → ℕ → ℕ → ℕ → ℕ → ℕ
 walk m space pc zero p = 0
 walk m space pc (suc k) p =
     cond (eqb p (suc k)) (cond (block-at m space pc p) p (walk m space pc k (next-at m p))) (walk m space pc k p)
 
-abbrev pub place-of : List ℕ → ℕ → ℕ → ℕ
-place-of m space pc = walk m space pc (places - 1) (cell m (bucket space pc))
+abbrev pub slot-of : List ℕ → ℕ → ℕ → ℕ
+slot-of m space pc = walk m space pc (slots - 1) (cell m (bucket space pc))
 
 abbrev pub found-at : List ℕ → ℕ → Found
 found-at m p =
@@ -38,59 +39,63 @@ found-at m p =
 
 unfoldable pub lookup : List ℕ → ℕ → ℕ → Found
 unfolding walk
-lookup m space pc = found-at m (place-of m space pc)
+lookup m space pc = found-at m (slot-of m space pc)
 
 -- ---- placing
 
+-- where the last block placed ends, 0 where there is none that ends at the bound or before
+abbrev pub last-end : List ℕ → ℕ → ℕ
+last-end m bound =
+    let e = start-at m (used m) + length-at m (used m) in
+    cond (eqb (used m) 0) 0 (cond (ltb bound e) 0 e)
+
 -- where a block of n bytes goes
 abbrev pub start-for : List ℕ → ℕ → ℕ → ℕ
-start-for m size n =
-    let e = start-at m (used m) + length-at m (used m) in
-    cond (eqb (used m) 0) 0 (cond (ltb size (e + n)) 0 e)
+start-for m size n = Model.start-after size (last-end m size) n
 
--- whether the block at a place shares a byte with those from start up to end
+-- whether the block at a slot shares a byte with those from start up to end
 abbrev pub overlap-at : List ℕ → ℕ → ℕ → ℕ → Bool
 overlap-at m start end p = ltb (start-at m p) end && ltb start (start-at m p + length-at m p)
 
--- whether a new block puts out the one at a place, where `room` more may stay
-abbrev pub puts-out : List ℕ → Entry → ℕ → ℕ → Bool
-puts-out m e room p = key-at m (e .space) (e .pc) p || (overlap-at m (e .start) (e .start + e .length) p || eqb room 0)
+-- whether a new block evicts the one at a slot, where `room` more may stay
+abbrev pub evicts : List ℕ → Entry → ℕ → ℕ → Bool
+evicts m e room p = key-at m (e .space) (e .pc) p || (overlap-at m (e .start) (e .start + e .length) p || eqb room 0)
 
--- whether the block at a place goes
+-- whether the block at a slot is evicted
 abbrev pub goes : List ℕ → Entry → ℕ → ℕ → Bool
-goes m e room p = not (eqb (length-at m p) 0) && puts-out m e room p
+goes m e room p = not (eqb (length-at m p) 0) && evicts m e room p
 
--- a place that has a block
+-- a slot that has a block
 abbrev pub live : List ℕ → ℕ → ℕ
 live m p = cond (eqb (length-at m p) 0) 0 1
 
--- a place without the block that goes, and for how many others there is room then
+-- a slot without the block that is evicted, and for how many others there is room then
 abbrev pub swept-at : List ℕ → Entry → ℕ → ℕ → List ℕ
 swept-at m e room p = cond (goes m e room p) (dropped m p) m
 
 abbrev pub room-at : List ℕ → Entry → ℕ → ℕ → ℕ
 room-at m e room p = cond (goes m e room p) room (room - live m p)
 
--- places k to 1 without the blocks that go
+-- slots k to 1 without the blocks that are evicted
 unfoldable pub swept : List ℕ → Entry → ℕ → ℕ → List ℕ
 swept m e room zero = m
 swept m e room (suc k) = swept (swept-at m e room (suc k)) e (room-at m e room (suc k)) k
 
--- the block of a place, placed again
-abbrev pub refilled-at : List ℕ → ℕ → List ℕ
-refilled-at m p = cond (eqb (length-at m p) 0) m (pushed m (entry-at m p))
+-- the block of a slot, pushed again
+abbrev pub reinserted-at : List ℕ → ℕ → List ℕ
+reinserted-at m p = cond (eqb (length-at m p) 0) m (pushed m (entry-at m p))
 
--- those of the k places from p on
-unfoldable pub refilled : List ℕ → ℕ → ℕ → List ℕ
+-- those of the k slots from p on
+unfoldable pub reinserted : List ℕ → ℕ → ℕ → List ℕ
 unfolding pushed
-refilled m zero p = m
-refilled m (suc k) p = refilled (refilled-at m p) k (p + 1)
+reinserted m zero p = m
+reinserted m (suc k) p = reinserted (reinserted-at m p) k (p + 1)
 
--- a log with its last place used moves together
+-- a log with its last slot used moves together
 abbrev pub compacted : List ℕ → List ℕ
-compacted m = cond (eqb (used m) (places - 1)) (refilled (emptied m) (used m) 1) m
+compacted m = cond (eqb (used m) (slots - 1)) (reinserted (emptied m) (used m) 1) m
 
--- the new block behind those that stay
+-- the new block after those that stay
 abbrev pub placed : ℕ → List ℕ → Entry → List ℕ
 placed entries m e = pushed (compacted (swept m e (entries - 1) (used m))) e
 
@@ -107,10 +112,10 @@ abbrev pub placed-at : List ℕ → List ℕ → ℕ → ℕ → ℕ → List �
 placed-at m store space pc count code at =
     result (record { refusal = Refusals.accepted; start = at })
     (placed index-entries m (record { space = space; pc = pc; start = at; length = length code; count = count }))
-    (take at store ++ code ++ drop (at + length code) store)
+    (splice store at code)
 
 unfoldable pub place : List ℕ → List ℕ → ℕ → ℕ → ℕ → List ℕ → Result
-unfolding swept refilled
+unfolding swept reinserted
 place m store space pc count code =
     cond (Model.refused (length store) (length code)) (result (record { refusal = Refusals.code-length; start = 0 }) m store)
     (placed-at m store space pc count code (start-for m (length store) (length code)))

@@ -25,11 +25,18 @@ end b = b .start + length (b .code)
 abbrev pub refused : ℕ → ℕ → Bool
 refused size n = eqb n 0 || (not (eqb (n % 4) 0) || ltb size n)
 
--- where a new block of n bytes goes: behind the last one placed, or to the front where the rest is too short or the index
--- is empty. This is chosen before anything is dropped
+-- where the last block placed ends, 0 where the index is empty
+abbrev pub last-end : List Block → ℕ
+last-end [] = 0
+last-end (last ∷ older) = end last
+
+-- the rule: after the last block, or to the front where the rest is too short
+abbrev pub start-after : ℕ → ℕ → ℕ → ℕ
+start-after size last n = cond (ltb size (last + n)) 0 last
+
+-- where a new block of n bytes goes. This is chosen before anything is dropped
 abbrev pub start : ℕ → List Block → ℕ → ℕ
-start size [] n = 0
-start size (last ∷ older) n = cond (ltb size (end last + n)) 0 (end last)
+start size bs n = start-after size (last-end bs) n
 
 abbrev pub has-key : ℕ → ℕ → Block → Bool
 has-key space pc b = eqb (b .space) space && eqb (b .pc) pc
@@ -51,6 +58,11 @@ with-room entries bs = cond (ltb (length bs) entries) bs (take (length bs - 1) b
 -- full, and no other
 abbrev pub placed : ℕ → List Block → Block → List Block
 placed entries bs b = b ∷ with-room entries (without (overlap b) (without (has-key (b .space) (b .pc)) bs))
+
+-- the new block of a placing
+abbrev pub block : ℕ → List Block → ℕ → ℕ → ℕ → List ℕ → Block
+block size bs space pc count code =
+    record { space = space; pc = pc; start = start size bs (length code); count = count; code = code }
 
 -- what placing answers
 abbrev pub place : ℕ → List Block → ℕ → Placed

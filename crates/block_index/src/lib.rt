@@ -26,7 +26,7 @@ pub struct Found {
 // ---- lookup
 
 fn key_at(m: &[u8], space: u64, pc: u64, p: u16) -> bool
-    requires { ⌜ (length (now m) ≡ L.index-bytes) × (p < L.places) ⌝ }
+    requires { ⌜ (length (now m) ≡ L.index-bytes) × (p < L.slots) ⌝ }
     ensures { λ r. ⌜ r ≡ I.key-at (now (m .entry)) space pc p ⌝ }
 {
     if block_log::space_at(m, p) != space {
@@ -35,9 +35,9 @@ fn key_at(m: &[u8], space: u64, pc: u64, p: u16) -> bool
     block_log::pc_at(m, p) == pc
 }
 
-// Whether the block under a key stands at a place.
+// Whether the block under a key stands at a slot.
 fn block_at(m: &[u8], space: u64, pc: u64, p: u16) -> bool
-    requires { ⌜ (length (now m) ≡ L.index-bytes) × (p < L.places) ⌝ }
+    requires { ⌜ (length (now m) ≡ L.index-bytes) × (p < L.slots) ⌝ }
     ensures { λ r. ⌜ r ≡ I.block-at (now (m .entry)) space pc p ⌝ }
 {
     if key_at(m, space, pc, p) {
@@ -46,10 +46,10 @@ fn block_at(m: &[u8], space: u64, pc: u64, p: u16) -> bool
     false
 }
 
-// The place of the block under a key, 0 where there is none. In a log that the calls made, the places of a chain fall.
-fn place_of(m: &[u8], space: u64, pc: u64) -> u16
+// The slot of the block under a key, 0 where there is none. In a log that the calls made, the slots of a chain fall.
+fn slot_of(m: &[u8], space: u64, pc: u64) -> u16
     requires { ⌜ length (now m) ≡ L.index-bytes ⌝ }
-    ensures { λ r. ⌜ (r ≡ I.place-of (now (m .entry)) space pc) × (r < L.places) ⌝ }
+    ensures { λ r. ⌜ (r ≡ I.slot-of (now (m .entry)) space pc) × (r < L.slots) ⌝ }
 {
     let mut p = block_log::cell(m, block_log::bucket(space, pc));
     while p != 0 {
@@ -69,7 +69,7 @@ pub fn lookup(m: &[u8], space: u64, pc: u64) -> Found
     requires { ⌜ length (now m) ≡ L.index-bytes ⌝ }
     ensures { λ r. ⌜ Looks (now (m .entry)) space pc r ⌝ }
 {
-    let p = place_of(m, space, pc);
+    let p = slot_of(m, space, pc);
     if p == 0 {
         return Found {
             refusal: refusals::NO_BLOCK as u64,
@@ -88,7 +88,7 @@ pub fn lookup(m: &[u8], space: u64, pc: u64) -> Found
 
 // ---- placing
 
-fn refused(size: u64, n: u64) -> bool
+pub fn refused(size: u64, n: u64) -> bool
     ensures { λ r. ⌜ r ≡ Model.refused size n ⌝ }
 {
     if n == 0 {
@@ -100,10 +100,10 @@ fn refused(size: u64, n: u64) -> bool
     size < n
 }
 
-// Where a block of n bytes goes: behind the last one placed, or to the store's front. Nothing overflows: what is left is compared.
-fn start_for(m: &[u8], size: u64, n: u64) -> u64
-    requires { ⌜ (length (now m) ≡ L.index-bytes) × (n ≤ size) ⌝ }
-    ensures { λ r. ⌜ (r ≡ I.start-for (now (m .entry)) size n) × (r + n ≤ size) ⌝ }
+// Where the last block placed ends, 0 where there is none that ends at the bound or before. Nothing overflows: what is left is compared.
+pub fn last_end(m: &[u8], bound: u64) -> u64
+    requires { ⌜ length (now m) ≡ L.index-bytes ⌝ }
+    ensures { λ r. ⌜ (r ≡ I.last-end (now (m .entry)) bound) × (r ≤ bound) ⌝ }
 {
     let last = block_log::used(m);
     if last == 0 {
@@ -111,22 +111,30 @@ fn start_for(m: &[u8], size: u64, n: u64) -> u64
     }
     let start = block_log::start_at(m, last);
     let length = block_log::length_at(m, last);
-    if size < start {
+    if bound < start {
         return 0;
     }
-    let rest = size - start;
-    if rest < length {
-        return 0;
-    }
-    if rest - length < n {
+    if bound - start < length {
         return 0;
     }
     start + length
 }
 
-// Whether the block at a place shares a byte with those from start up to end.
+// Where a block of n bytes goes: after the last one placed, or to the store's front.
+fn start_for(m: &[u8], size: u64, n: u64) -> u64
+    requires { ⌜ (length (now m) ≡ L.index-bytes) × (n ≤ size) ⌝ }
+    ensures { λ r. ⌜ (r ≡ I.start-for (now (m .entry)) size n) × (r + n ≤ size) ⌝ }
+{
+    let last = last_end(m, size);
+    if size - last < n {
+        return 0;
+    }
+    last
+}
+
+// Whether the block at a slot shares a byte with those from start up to end.
 fn overlap_at(m: &[u8], start: u64, end: u64, p: u16) -> bool
-    requires { ⌜ (length (now m) ≡ L.index-bytes) × (p < L.places) ⌝ }
+    requires { ⌜ (length (now m) ≡ L.index-bytes) × (p < L.slots) ⌝ }
     ensures { λ r. ⌜ r ≡ I.overlap-at (now (m .entry)) start end p ⌝ }
 {
     let other = block_log::start_at(m, p);
@@ -139,10 +147,10 @@ fn overlap_at(m: &[u8], start: u64, end: u64, p: u16) -> bool
     start - other < block_log::length_at(m, p)
 }
 
-// Whether a new block puts out the one at a place, where `room` more may stay.
-fn puts_out(m: &[u8], e: Entry, room: u64, p: u16) -> bool
-    requires { ⌜ (length (now m) ≡ L.index-bytes) × (p < L.places) × (e .start + e .length < 2 ^ 64) ⌝ }
-    ensures { λ r. ⌜ r ≡ I.puts-out (now (m .entry)) e room p ⌝ }
+// Whether a new block evicts the one at a slot, where `room` more may stay.
+fn evicts(m: &[u8], e: Entry, room: u64, p: u16) -> bool
+    requires { ⌜ (length (now m) ≡ L.index-bytes) × (p < L.slots) × (e .start + e .length < 2 ^ 64) ⌝ }
+    ensures { λ r. ⌜ r ≡ I.evicts (now (m .entry)) e room p ⌝ }
 {
     if key_at(m, e.space, e.pc, p) {
         return true;
@@ -153,22 +161,22 @@ fn puts_out(m: &[u8], e: Entry, room: u64, p: u16) -> bool
     room == 0
 }
 
-// Drops the block at a place if it goes; for how many others there is room then.
+// Drops the block at a slot if it is evicted; for how many others there is room then.
 fn sweep_at(m: &mut [u8], e: Entry, room: u64, p: u16) -> u64
-    requires { ⌜ (length (now m) ≡ L.index-bytes) × (p < L.places) × (e .start + e .length < 2 ^ 64) ⌝ }
+    requires { ⌜ (length (now m) ≡ L.index-bytes) × (p < L.slots) × (e .start + e .length < 2 ^ 64) ⌝ }
     ensures { λ r. ⌜ (now (m .exit) ≡ I.swept-at (now (m .entry)) e room p) × (r ≡ I.room-at (now (m .entry)) e room p) ⌝ }
 {
     if block_log::length_at(m, p) == 0 {
         return room;
     }
-    if puts_out(m, e, room, p) {
+    if evicts(m, e, room, p) {
         block_log::drop_at(m, p);
         return room;
     }
     room - 1
 }
 
-// Drops the blocks that go, from the last place to the first.
+// Drops the blocks that are evicted, from the last slot to the first.
 fn sweep(m: &mut [u8], e: Entry, room: u64)
     requires { ⌜ (length (now m) ≡ L.index-bytes) × (e .start + e .length < 2 ^ 64) ⌝ }
     ensures { λ r. ⌜ now (m .exit) ≡ I.swept (now (m .entry)) e room (L.used (now (m .entry))) ⌝ }
@@ -181,10 +189,10 @@ fn sweep(m: &mut [u8], e: Entry, room: u64)
     }
 }
 
-// Places the block of a place again, if it has one.
-fn refill_at(m: &mut [u8], p: u16)
-    requires { ⌜ (length (now m) ≡ L.index-bytes) × (p < L.places) ⌝ }
-    ensures { λ r. ⌜ now (m .exit) ≡ I.refilled-at (now (m .entry)) p ⌝ }
+// Pushes the block of a slot again, if it has one.
+fn reinsert_at(m: &mut [u8], p: u16)
+    requires { ⌜ (length (now m) ≡ L.index-bytes) × (p < L.slots) ⌝ }
+    ensures { λ r. ⌜ now (m .exit) ≡ I.reinserted-at (now (m .entry)) p ⌝ }
 {
     if block_log::length_at(m, p) == 0 {
         return;
@@ -196,30 +204,30 @@ fn refill_at(m: &mut [u8], p: u16)
 // Moves the blocks of a log together.
 fn compact(m: &mut [u8])
     requires { ⌜ length (now m) ≡ L.index-bytes ⌝ }
-    ensures { λ r. ⌜ now (m .exit) ≡ I.refilled (L.emptied (now (m .entry))) (L.used (now (m .entry))) 1 ⌝ }
+    ensures { λ r. ⌜ now (m .exit) ≡ I.reinserted (L.emptied (now (m .entry))) (L.used (now (m .entry))) 1 ⌝ }
 {
     let n = block_log::used(m);
     block_log::empty(m);
     let mut p = 1;
     while p <= n {
-        refill_at(m, p);
+        reinsert_at(m, p);
         p += 1;
     }
 }
 
-// Moves the blocks of a log together where its last place is used.
+// Moves the blocks of a log together where its last slot is used.
 fn make_room(m: &mut [u8])
     requires { ⌜ length (now m) ≡ L.index-bytes ⌝ }
     ensures { λ r. ⌜ now (m .exit) ≡ I.compacted (now (m .entry)) ⌝ }
 {
-    if block_log::used(m) != block_log::PLACES - 1 {
+    if block_log::used(m) != block_log::SLOTS - 1 {
         return;
     }
     compact(m);
 }
 
-// The new block behind those that stay.
-fn insert(m: &mut [u8], entries: u64, e: Entry)
+// The new block after those that stay.
+pub fn insert(m: &mut [u8], entries: u64, e: Entry)
     requires { ⌜ (length (now m) ≡ L.index-bytes) × (1 ≤ entries) × (e .start + e .length < 2 ^ 64) ⌝ }
     ensures { λ r. ⌜ now (m .exit) ≡ I.placed entries (now (m .entry)) e ⌝ }
 {

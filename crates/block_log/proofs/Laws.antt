@@ -1,4 +1,4 @@
--- What stands at each cell and place after a change of the log. Assumes nothing.
+-- What stands at each cell and slot after a change of the log. Assumes nothing.
 use mathlib.Core.Path.{_≡_, refl, sym, ap, _∙_}
 use mathlib.Core.Logic.{_⊎_, inl, inr, ⊎-map}
 use mathlib.Core.Bool.{Bool, true, false, cond}
@@ -11,7 +11,7 @@ use Rattle.le.specs.Le.{bytes, load, store}
 use Rattle.le.proofs.Laws.{load-add, load-byte, load-same, load-apart, length-store, length-bytes}
 use Rattle.block_log.specs.declared.Entry.{Entry}
 use Rattle.block_log.proofs.Tests.{by-eqb, by-ltb}
-use Rattle.block_log.specs.Log.{index-bytes, bucket, cell, used, emptied, at, next-at, entry-at, put, dropped, behind, pushed}
+use Rattle.block_log.specs.Log.{index-bytes, bucket, cell, used, emptied, at, next-at, entry-at, put, dropped, fresh, pushed}
 
 -- ---- changes of the bytes from lo up to hi
 
@@ -19,7 +19,7 @@ pub record Within (m m′ : List ℕ) (lo hi : ℕ) : Type 0 where
   pub long : length m′ ≡ length m
   pub loads : (k j : ℕ) → j + k ≤ length m → (j + k ≤ lo) ⊎ (hi ≤ j) → load k m′ j ≡ load k m j
 
--- numbers one behind the other, each by its place, its bytes' count and its value
+-- numbers one after the other, each by its offset, its bytes' count and its value
 abbrev Numbers : Type 0
 Numbers = List (ℕ × ℕ × ℕ)
 
@@ -55,7 +55,7 @@ getD-zeros zero i = refl
 getD-zeros (suc k) zero = refl
 getD-zeros (suc k) (suc i) = getD-zeros k i
 
--- ---- cells and places elsewhere
+-- ---- cells and slots elsewhere
 
 pub record Same (m m′ : List ℕ) (q : ℕ) : Type 0 where
   pub entry : entry-at m′ q ≡ entry-at m q
@@ -88,11 +88,11 @@ pub record Marks (m : List ℕ) (p : ℕ) (goes : Bool) (m′ : List ℕ) : Type
   pub cells : (b : ℕ) → b ≤ 2048 → cell m′ b ≡ cell m b
   pub entry : entry-at m′ p ≡ marked goes (entry-at m p)
   pub next : next-at m′ p ≡ next-at m p
-  pub places : (q : ℕ) → q ≤ 1023 → (q < p) ⊎ (p < q) → Same m m′ q
+  pub slots : (q : ℕ) → q ≤ 1023 → (q < p) ⊎ (p < q) → Same m m′ q
 
 module _ (m : List ℕ) (l : length m ≡ index-bytes) where
   pub marks : (p : ℕ) → p ≤ 1023 → (goes : Bool) → Marks m p goes (cond goes (dropped m p) m)
-  marks p h false = record { long = l; cells = λ b g. refl; entry = refl; next = refl; places = λ q g o. record { entry = refl; next = refl } }
+  marks p h false = record { long = l; cells = λ b g. refl; entry = refl; next = refl; slots = λ q g o. record { entry = refl; next = refl } }
   marks p h true =
       let r = row m (at p + 24) (at p + 32) ((at p + 24, 8, 0) ∷ []) (omega arith) (omega arith) in
       let w = r .0 in
@@ -109,7 +109,7 @@ module _ (m : List ℕ) (l : length m ≡ index-bytes) where
               s 1 (at p + 34) (omega arith) (inr (omega arith)),
             );
         next = rw (s 2 (at p + 32) (omega arith) (inr (omega arith)));
-        places = λ q g o.
+        slots = λ q g o.
             same-within m (dropped m p) (at p + 24) (at p + 32) l w q g (⊎-map (λ (i : q < p). omega arith) (λ (i : p < q). omega arith) o);
       }
 
@@ -134,11 +134,11 @@ pub record Fits (e : Entry) : Type 0 where
 
 pub record Pushes (m : List ℕ) (e : Entry) (m′ : List ℕ) : Type 0 where
   pub long : length m′ ≡ index-bytes
-  pub last : used m′ ≡ behind m
-  pub cells : (b : ℕ) → b < 2048 → cell m′ b ≡ cond (eqb (bucket (e .space) (e .pc)) b) (behind m) (cell m b)
-  pub entry : entry-at m′ (behind m) ≡ e
-  pub next : next-at m′ (behind m) ≡ cell m (bucket (e .space) (e .pc))
-  pub places : (q : ℕ) → 0 < q → q ≤ 1023 → (q < behind m) ⊎ (behind m < q) → Same m m′ q
+  pub last : used m′ ≡ fresh m
+  pub cells : (b : ℕ) → b < 2048 → cell m′ b ≡ cond (eqb (bucket (e .space) (e .pc)) b) (fresh m) (cell m b)
+  pub entry : entry-at m′ (fresh m) ≡ e
+  pub next : next-at m′ (fresh m) ≡ cell m (bucket (e .space) (e .pc))
+  pub slots : (q : ℕ) → 0 < q → q ≤ 1023 → (q < fresh m) ⊎ (fresh m < q) → Same m m′ q
 
 pub bucket-lt : (space pc : ℕ) → bucket space pc < 2048
 unfolding bucket
@@ -147,7 +147,7 @@ bucket-lt space pc = omega arith
 pub pushes : (m : List ℕ) (e : Entry) → length m ≡ index-bytes → Fits e → Pushes m e (pushed m e)
 unfolding pushed
 pushes m e l f =
-    let p = behind m in
+    let p = fresh m in
     let b = bucket (e .space) (e .pc) in
     let h = bucket-lt (e .space) (e .pc) in
     let m₁ = put m p e (cell m b) in
@@ -177,6 +177,6 @@ pushes m e l f =
           (λ q. other c g (by-ltb (λ (u : Bool). (c < b) ⊎ (b < c)) b c inr (λ i. inl (omega arith))));
       entry = here p (omega arith) (omega arith) .entry ∙ rw (r .1 .0, r .1 .1 .0, r .1 .1 .1 .0, n .0, n .1 .1 .0);
       next = here p (omega arith) (omega arith) .next ∙ rw (n .1 .0) (omega arith);
-      places = λ q z g o.
+      slots = λ q z g o.
           both (same-within m m₁ (at p) (at p + 35) l (r .0) q g (⊎-map (λ (i : q < p). omega arith) (λ (i : p < q). omega arith) o)) (here q z g);
     }

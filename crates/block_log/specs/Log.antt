@@ -1,13 +1,15 @@
--- The bytes of an index: a log of places, each with what an entry holds, in the order of placing, and for each bucket of
--- the hash a chain through its places, the newest first. Numbers are little-endian.
+-- The bytes of an index: a log of slots, each with what an entry holds, in the order of placing, and for each bucket of
+-- the hash a chain through its slots, the newest first. Numbers are little-endian.
 --
--- Bytes 0 to 4,095 are 2,048 cells of 2 bytes: cell b is the newest place of bucket b. The cell behind them is the last
--- place used; it stands in the room of place 0, which holds no block. Place p, 1 to 1,023, has 40 bytes at 4,096 + 40 p:
--- space, PC, start and length of 8 bytes each, the next place of its bucket's chain in 2, the count; 5 are not used. A
--- length of 0 is a block that was dropped. Place 0 is no place, so that a chain ends there. A place's number is taken
--- modulo 1,024, so that any bytes are a log.
+-- Bytes 0 to 4,095 are 2,048 cells of 2 bytes: cell b is the head of bucket b's chain. The cell after them is the last
+-- slot used; it stands in the room of slot 0, which holds no block. Slot p, 1 to 1,023, has 40 bytes at 4,096 + 40 p:
+-- space, PC, start and length of 8 bytes each, the next slot of its bucket's chain in 2, the count; 5 are not used. A
+-- length of 0 is a tombstone: the block was dropped. Slot 0 is no slot, so that a chain ends there. A slot's number is
+-- taken modulo 1,024, so that any bytes are a log.
 use Prim.Native.Nat.{ℕ, _+_, _-_, _*_, _%_}
+use mathlib.Core.Bool.{Bool}
 use mathlib.Core.List.{List, _++_}
+use lib.Dec.{eqb}
 use lib.ListN.{drop}
 use Rattle.le.specs.Le.{bytes, load, store}
 use Rattle.fnv1a.specs.Fnv1a.{fnv1a}
@@ -16,15 +18,15 @@ use Rattle.block_log.specs.declared.Entry.{Entry}
 abbrev pub buckets : ℕ
 buckets = 2048
 
--- with place 0
-abbrev pub places : ℕ
-places = 1024
+-- with slot 0
+abbrev pub slots : ℕ
+slots = 1024
 
-abbrev pub place-bytes : ℕ
-place-bytes = 40
+abbrev pub slot-bytes : ℕ
+slot-bytes = 40
 
 abbrev pub index-bytes : ℕ
-index-bytes = 2 * buckets + place-bytes * places
+index-bytes = 2 * buckets + slot-bytes * slots
 
 -- ---- cells
 
@@ -33,7 +35,7 @@ unfoldable pub bucket : ℕ → ℕ → ℕ
 bucket space pc = fnv1a (bytes 8 space ++ bytes 8 pc) % buckets
 
 abbrev pub cell : List ℕ → ℕ → ℕ
-cell m b = load 2 m (2 * b) % places
+cell m b = load 2 m (2 * b) % slots
 
 abbrev pub used : List ℕ → ℕ
 used m = cell m buckets
@@ -41,14 +43,14 @@ used m = cell m buckets
 abbrev pub set-cell : List ℕ → ℕ → ℕ → List ℕ
 set-cell m b p = store 2 m (2 * b) p
 
--- no place used, no place in a bucket
+-- no slot used, no slot in a chain
 abbrev pub emptied : List ℕ → List ℕ
 emptied m = bytes (2 * buckets + 2) 0 ++ drop (2 * buckets + 2) m
 
--- ---- places
+-- ---- slots
 
 abbrev pub at : ℕ → ℕ
-at p = 2 * buckets + place-bytes * p
+at p = 2 * buckets + slot-bytes * p
 
 abbrev pub space-at : List ℕ → ℕ → ℕ
 space-at m p = load 8 m (at p)
@@ -63,7 +65,7 @@ abbrev pub length-at : List ℕ → ℕ → ℕ
 length-at m p = load 8 m (at p + 24)
 
 abbrev pub next-at : List ℕ → ℕ → ℕ
-next-at m p = load 2 m (at p + 32) % places
+next-at m p = load 2 m (at p + 32) % slots
 
 abbrev pub count-at : List ℕ → ℕ → ℕ
 count-at m p = load 1 m (at p + 34)
@@ -82,20 +84,23 @@ put m p e next =
     (at p + 34)
     (e .count)
 
--- the block at a place is dropped
+abbrev pub tombstone : List ℕ → ℕ → Bool
+tombstone m p = eqb (length-at m p) 0
+
+-- the block at a slot is dropped
 abbrev pub dropped : List ℕ → ℕ → List ℕ
 dropped m p = store 8 m (at p + 24) 0
 
 -- ---- the log
 
--- the place behind the last one used
-abbrev pub behind : List ℕ → ℕ
-behind m = used m % (places - 1) + 1
+-- the slot after the last one used
+abbrev pub fresh : List ℕ → ℕ
+fresh m = used m % (slots - 1) + 1
 
--- an entry behind the last place used, the first of its bucket's chain
+-- an entry after the last slot used, the head of its bucket's chain
 unfoldable pub pushed : List ℕ → Entry → List ℕ
 unfolding bucket put
 pushed m e =
-    let p = behind m in
+    let p = fresh m in
     let b = bucket (e .space) (e .pc) in
     set-cell (set-cell (put m p e (cell m b)) b p) buckets p

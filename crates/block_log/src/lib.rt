@@ -1,4 +1,4 @@
-// The bytes of an index: a log of places, and a chain of places for each bucket. specs/Log.antt has the layout.
+// The bytes of an index: a log of slots, and a chain of slots for each bucket. specs/Log.antt has the layout.
 ghost use mathlib.Core.Path.{_≡_};
 ghost use Prim.Native.Nat.{_+_, _<_, _≤_};
 ghost use lib.ListN.{length};
@@ -9,13 +9,13 @@ pub const INDEX_BYTES: usize = 45056;
 
 pub const BUCKETS: usize = 2048;
 
-// With place 0, which is no place.
-pub const PLACES: u16 = 1024;
+// With slot 0, which is no slot.
+pub const SLOTS: u16 = 1024;
 
-// Where place 0 starts, and the bytes of a place.
+// Where slot 0 starts, and the bytes of a slot.
 const LOG: usize = 2 * BUCKETS;
 
-const PLACE_BYTES: usize = 40;
+const SLOT_BYTES: usize = 40;
 
 // What the index holds of a block.
 pub struct Entry {
@@ -36,63 +36,63 @@ pub fn bucket(space: u64, pc: u64) -> usize
 
 pub fn cell(m: &[u8], b: usize) -> u16
     requires { ⌜ (length (now m) ≡ L.index-bytes) × (b ≤ L.buckets) ⌝ }
-    ensures { λ r. ⌜ (r ≡ L.cell (now (m .entry)) b) × (r < L.places) ⌝ }
+    ensures { λ r. ⌜ (r ≡ L.cell (now (m .entry)) b) × (r < L.slots) ⌝ }
 {
-    le::load16(m, 2 * b) % PLACES
+    le::load16(m, 2 * b) % SLOTS
 }
 
-// The last place used.
+// The last slot used.
 pub fn used(m: &[u8]) -> u16
     requires { ⌜ length (now m) ≡ L.index-bytes ⌝ }
-    ensures { λ r. ⌜ (r ≡ L.used (now (m .entry))) × (r < L.places) ⌝ }
+    ensures { λ r. ⌜ (r ≡ L.used (now (m .entry))) × (r < L.slots) ⌝ }
 {
     cell(m, BUCKETS)
 }
 
 pub fn space_at(m: &[u8], p: u16) -> u64
-    requires { ⌜ (length (now m) ≡ L.index-bytes) × (p < L.places) ⌝ }
+    requires { ⌜ (length (now m) ≡ L.index-bytes) × (p < L.slots) ⌝ }
     ensures { λ r. ⌜ r ≡ L.space-at (now (m .entry)) p ⌝ }
 {
-    le::load64(m, LOG + PLACE_BYTES * p as usize)
+    le::load64(m, LOG + SLOT_BYTES * p as usize)
 }
 
 pub fn pc_at(m: &[u8], p: u16) -> u64
-    requires { ⌜ (length (now m) ≡ L.index-bytes) × (p < L.places) ⌝ }
+    requires { ⌜ (length (now m) ≡ L.index-bytes) × (p < L.slots) ⌝ }
     ensures { λ r. ⌜ r ≡ L.pc-at (now (m .entry)) p ⌝ }
 {
-    le::load64(m, LOG + PLACE_BYTES * p as usize + 8)
+    le::load64(m, LOG + SLOT_BYTES * p as usize + 8)
 }
 
 pub fn start_at(m: &[u8], p: u16) -> u64
-    requires { ⌜ (length (now m) ≡ L.index-bytes) × (p < L.places) ⌝ }
+    requires { ⌜ (length (now m) ≡ L.index-bytes) × (p < L.slots) ⌝ }
     ensures { λ r. ⌜ r ≡ L.start-at (now (m .entry)) p ⌝ }
 {
-    le::load64(m, LOG + PLACE_BYTES * p as usize + 16)
+    le::load64(m, LOG + SLOT_BYTES * p as usize + 16)
 }
 
 pub fn length_at(m: &[u8], p: u16) -> u64
-    requires { ⌜ (length (now m) ≡ L.index-bytes) × (p < L.places) ⌝ }
+    requires { ⌜ (length (now m) ≡ L.index-bytes) × (p < L.slots) ⌝ }
     ensures { λ r. ⌜ r ≡ L.length-at (now (m .entry)) p ⌝ }
 {
-    le::load64(m, LOG + PLACE_BYTES * p as usize + 24)
+    le::load64(m, LOG + SLOT_BYTES * p as usize + 24)
 }
 
 pub fn next_at(m: &[u8], p: u16) -> u16
-    requires { ⌜ (length (now m) ≡ L.index-bytes) × (p < L.places) ⌝ }
-    ensures { λ r. ⌜ (r ≡ L.next-at (now (m .entry)) p) × (r < L.places) ⌝ }
+    requires { ⌜ (length (now m) ≡ L.index-bytes) × (p < L.slots) ⌝ }
+    ensures { λ r. ⌜ (r ≡ L.next-at (now (m .entry)) p) × (r < L.slots) ⌝ }
 {
-    le::load16(m, LOG + PLACE_BYTES * p as usize + 32) % PLACES
+    le::load16(m, LOG + SLOT_BYTES * p as usize + 32) % SLOTS
 }
 
 pub fn count_at(m: &[u8], p: u16) -> u8
-    requires { ⌜ (length (now m) ≡ L.index-bytes) × (p < L.places) ⌝ }
+    requires { ⌜ (length (now m) ≡ L.index-bytes) × (p < L.slots) ⌝ }
     ensures { λ r. ⌜ r ≡ L.count-at (now (m .entry)) p ⌝ }
 {
-    m[LOG + PLACE_BYTES * p as usize + 34]
+    m[LOG + SLOT_BYTES * p as usize + 34]
 }
 
 pub fn entry_at(m: &[u8], p: u16) -> Entry
-    requires { ⌜ (length (now m) ≡ L.index-bytes) × (p < L.places) ⌝ }
+    requires { ⌜ (length (now m) ≡ L.index-bytes) × (p < L.slots) ⌝ }
     ensures { λ r. ⌜ r ≡ L.entry-at (now (m .entry)) p ⌝ }
 {
     Entry {
@@ -105,17 +105,17 @@ pub fn entry_at(m: &[u8], p: u16) -> Entry
 }
 
 fn put_count(m: &mut [u8], p: u16, count: u8)
-    requires { ⌜ (length (now m) ≡ L.index-bytes) × (p < L.places) ⌝ }
+    requires { ⌜ (length (now m) ≡ L.index-bytes) × (p < L.slots) ⌝ }
     ensures { λ r. ⌜ now (m .exit) ≡ store 1 (now (m .entry)) (L.at p + 34) count ⌝ }
 {
-    m[LOG + PLACE_BYTES * p as usize + 34] = count;
+    m[LOG + SLOT_BYTES * p as usize + 34] = count;
 }
 
 fn put(m: &mut [u8], p: u16, e: Entry, next: u16)
-    requires { ⌜ (length (now m) ≡ L.index-bytes) × (p < L.places) ⌝ }
+    requires { ⌜ (length (now m) ≡ L.index-bytes) × (p < L.slots) ⌝ }
     ensures { λ r. ⌜ now (m .exit) ≡ L.put (now (m .entry)) p e next ⌝ }
 {
-    let at = LOG + PLACE_BYTES * p as usize;
+    let at = LOG + SLOT_BYTES * p as usize;
     le::store64(m, at, e.space);
     le::store64(m, at + 8, e.pc);
     le::store64(m, at + 16, e.start);
@@ -124,15 +124,15 @@ fn put(m: &mut [u8], p: u16, e: Entry, next: u16)
     put_count(m, p, e.count);
 }
 
-// The block at a place is dropped.
+// The block at a slot is dropped.
 pub fn drop_at(m: &mut [u8], p: u16)
-    requires { ⌜ (length (now m) ≡ L.index-bytes) × (p < L.places) ⌝ }
+    requires { ⌜ (length (now m) ≡ L.index-bytes) × (p < L.slots) ⌝ }
     ensures { λ r. ⌜ now (m .exit) ≡ L.dropped (now (m .entry)) p ⌝ }
 {
-    le::store64(m, LOG + PLACE_BYTES * p as usize + 24, 0);
+    le::store64(m, LOG + SLOT_BYTES * p as usize + 24, 0);
 }
 
-// No place used, no place in a bucket.
+// No slot used, no slot in a chain.
 pub fn empty(m: &mut [u8])
     requires { ⌜ length (now m) ≡ L.index-bytes ⌝ }
     ensures { λ r. ⌜ now (m .exit) ≡ L.emptied (now (m .entry)) ⌝ }
@@ -144,12 +144,12 @@ pub fn empty(m: &mut [u8])
     }
 }
 
-// An entry behind the last place used.
+// An entry after the last slot used, the head of its chain.
 pub fn push(m: &mut [u8], e: Entry)
     requires { ⌜ length (now m) ≡ L.index-bytes ⌝ }
     ensures { λ r. ⌜ now (m .exit) ≡ L.pushed (now (m .entry)) e ⌝ }
 {
-    let p = used(m) % (PLACES - 1) + 1;
+    let p = used(m) % (SLOTS - 1) + 1;
     let b = bucket(e.space, e.pc);
     let next = cell(m, b);
     put(m, p, e, next);

@@ -2,16 +2,16 @@ use borrow.Author.Needs.{needs}
 use Prim.Native.Nat.{_+_, _-_, _≤_}
 use mathlib.Core.Path.{_≡_, sym, _∙_}
 use lib.ListN.{length}
-use Rattle.block_index.proofs.Steps.{refilled-step}
+use Rattle.block_index.proofs.Steps.{reinserted-step}
 use Rattle.block_log.specs.Log.{index-bytes}
-use Rattle.block_index.specs.Index.{refilled}
+use Rattle.block_index.specs.Index.{reinserted}
 use native.Mathlib.Omega.{arith}
 use Rattle.block_index.proofs.compact.Statement.{statement}
 use Rattle.block_index.proofs.compact.Tie as tie
 
--- the refill from here ends as the whole does
+-- the reinserting from here ends as the whole does
 abbrev Inv-loop : tie.InvT-loop
-Inv-loop m₀ n p₀ m p = (length m ≡ index-bytes) × (1 ≤ p) × (p ≤ n + 1) × (refilled m (n + 1 - p) p ≡ refilled m₀ n 1)
+Inv-loop m₀ n p₀ m p = (length m ≡ index-bytes) × (1 ≤ p) × (p ≤ n + 1) × (reinserted m (n + 1 - p) p ≡ reinserted m₀ n 1)
 
 abbrev μ-loop : tie.MeasureT-loop
 μ-loop m₀ n p₀ m p = n + 1 - p
@@ -24,11 +24,11 @@ loop-holds c =
 loop-again : tie.Need-loop-again Inv-loop μ-loop
 loop-again c =
     let l = c .before .before .before .before .before .loop in
-    let s = c .before .before .refill-at in
-    (s .kept .0 ∙ l .inv .0, omega arith, omega arith, rw (s .ensures) (sym (refilled-step (l .m) (c .before .before .before .before .before .before .before .before .before .before .used .result) (l .p) (omega arith)) ∙ l .inv .3))
+    let s = c .before .before .reinsert-at in
+    (s .kept .0 ∙ l .inv .0, omega arith, omega arith, rw (s .ensures) (sym (reinserted-step (l .m) (c .before .before .before .before .before .before .before .before .before .before .used .result) (l .p) (omega arith)) ∙ l .inv .3))
 
 returns : tie.Need-returns Inv-loop μ-loop
-unfolding refilled
+unfolding reinserted
 returns c =
     let l = c .before .loop in
     let z : c .before .before .before .before .before .before .used .result + 1 - l .p ≡ 0 = omega arith in

@@ -3,7 +3,7 @@ use Prim.Native.Nat.{_<_}
 use mathlib.Core.Path.{_≡_, sym, _∙_}
 use lib.ListN.{length}
 use Rattle.block_index.proofs.Steps.{swept-step}
-use Rattle.block_log.specs.Log.{index-bytes, places, used}
+use Rattle.block_log.specs.Log.{index-bytes, slots, used}
 use Rattle.block_index.specs.Index.{swept}
 use native.Mathlib.Omega.{arith}
 use Rattle.block_index.proofs.sweep.Statement.{statement}
@@ -11,7 +11,7 @@ use Rattle.block_index.proofs.sweep.Tie as tie
 
 -- the sweep from here ends as the whole does
 abbrev Inv-loop : tie.InvT-loop
-Inv-loop m₀ e room room₀ p₀ m room' p = (length m ≡ index-bytes) × (p < places) × (swept m e room' p ≡ swept m₀ e room (used m₀))
+Inv-loop m₀ e room room₀ p₀ m room' p = (length m ≡ index-bytes) × (p < slots) × (swept m e room' p ≡ swept m₀ e room (used m₀))
 
 abbrev μ-loop : tie.MeasureT-loop
 μ-loop m₀ e room room₀ p₀ m room' p = p

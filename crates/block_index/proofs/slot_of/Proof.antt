@@ -3,14 +3,14 @@ use Prim.Native.Nat.{_<_}
 use mathlib.Core.Path.{_≡_, sym, _∙_}
 use Rattle.block_index.proofs.Steps.{walk-start, walk-none, walk-hit, walk-on, walk-end}
 use Rattle.block_log.specs.Log as L
-use Rattle.block_index.specs.Index.{walk, place-of}
+use Rattle.block_index.specs.Index.{walk, slot-of}
 use native.Mathlib.Omega.{arith}
-use Rattle.block_index.proofs.place_of.Statement.{statement}
-use Rattle.block_index.proofs.place_of.Tie as tie
+use Rattle.block_index.proofs.slot_of.Statement.{statement}
+use Rattle.block_index.proofs.slot_of.Tie as tie
 
 -- the walk from here ends as the whole does
 abbrev Inv-loop : tie.InvT-loop
-Inv-loop m space pc p₀ p = (p < L.places) × (walk m space pc p p ≡ place-of m space pc)
+Inv-loop m space pc p₀ p = (p < L.slots) × (walk m space pc p p ≡ slot-of m space pc)
 
 abbrev μ-loop : tie.MeasureT-loop
 μ-loop m space pc p₀ p = p
@@ -44,8 +44,8 @@ returns-3 c =
     let l = c .before .loop in
     (walk-none (a .m .now) (a .space) (a .pc) (l .p) _ (omega arith) (l .inv .1), omega arith)
 
-pub place-of-spec : {M : Type 1} → statement M
-place-of-spec =
+pub slot-of-spec : {M : Type 1} → statement M
+slot-of-spec =
     tie.close
     (tie.spec
     Inv-loop

@@ -1,6 +1,6 @@
 use borrow.Author.Needs.{needs}
-use Rattle.block_index.proofs.puts_out.Statement.{statement}
-use Rattle.block_index.proofs.puts_out.Tie as tie
+use Rattle.block_index.proofs.evicts.Statement.{statement}
+use Rattle.block_index.proofs.evicts.Tie as tie
 
 returns : tie.Need-returns
 returns c = rw (← c .before .key-at .ensures, c .if1 .taken)
@@ -11,8 +11,8 @@ returns-2 c = rw (← c .before .before .before .before .key-at .ensures, c .bef
 returns-3 : tie.Need-returns-3
 returns-3 c = rw (← c .before .before .before .before .key-at .ensures, c .before .before .before .if1 .left, ← c .before .overlap-at .ensures, c .if2 .left)
 
-pub puts-out-spec : {M : Type 1} → statement M
-puts-out-spec =
+pub evicts-spec : {M : Type 1} → statement M
+evicts-spec =
     tie.close
     (tie.spec
     (λ c κs. search needs)
