@@ -23,11 +23,12 @@ use Rattle.block_index.specs.Model.{Block, end, overlap, without, with-r
 use Rattle.block_index.specs.Index as Index
 use Rattle.block_index.specs.Index.{last-end, start-for, compacted, Result, result, placed-at}
 use Rattle.block_index.specs.History as History
-use Rattle.block_index.specs.History.{Call, State, Reached, All, Looks, Places, after-call, blocks-call}
+use Rattle.block_index.specs.History.{Call, State, Reached, All, Kept, Looks, Places, after-call, blocks-call}
 use Rattle.block_index.specs.History.Reached.{begun, called}
 use Rattle.block_index.proofs.Steps.{walk-up, accepted}
 use Rattle.block_index.proofs.Chains.{Lists, empties, pushing, head, head-le, sweep, sweeping, reinserted-from}
-use Rattle.block_index.proofs.Views.{entry-of, Fine, Views, all-hold, together, finds, fits, reinserts, stays}
+use Rattle.block_index.proofs.Keys.{distinct}
+use Rattle.block_index.proofs.Views.{entry-of, Fine, Views, all-fine, together, finds, fits, reinserts, stays}
 use Rattle.block_index.proofs.Views.Views.{none, dead, live}
 
 -- ---- the store
@@ -159,9 +160,9 @@ module _ {size : ℕ} {m store : List ℕ} {bs : List Block} (g : Good index-ent
   start-is : start-for m (length store) (length code) ≡ new .start
   start-is = rw (g .long, last-is size (last-le (g .views) (g .top)) g)
 
-  placing : (0 < length code) × (length code ≤ size)
+  placing : 0 < length code → length code ≤ size
       → Good index-entries size (Index.placed index-entries m (entry-of new)) (splice store (new .start) code) (Model.placed index-entries bs new)
-  placing a = inserting (omega arith, omega arith) g new fit (a .0) (fitting size bs (length code) (a .1))
+  placing a b = inserting (omega arith, omega arith) g new fit a (fitting size bs (length code) b)
 
   record Step (r : Result) (refused : Bool) : Type 0 where
     good : Good index-entries size (r .index) (r .store) (cond refused bs (Model.placed index-entries bs new))
@@ -172,7 +173,7 @@ module _ {size : ℕ} {m store : List ℕ} {bs : List Block} (g : Good index-ent
       let e : Model.refused (length store) (length code) ≡ Model.refused size (length code) = rw (g .long) in
       rw (place-is m store space pc count code, e)
       (by-test (λ (t : Bool). Step (outcome t m store space pc count code) t) (Model.refused size (length code)) (λ q. record { good = g; answer = refl })
-      (λ q. rw start-is record { good = placing (accepted size (length code) q); answer = refl }))
+      (λ q. let a = accepted size (length code) q in rw start-is record { good = placing (a .0) (a .1); answer = refl }))
 
 -- ---- histories
 
@@ -203,12 +204,25 @@ looking {m = m} space pc g =
     )
     (finds m space pc (g .views) (g .lists .rows))
 
+all-kept : {size : ℕ} {s : State} {bs : List Block} → Reached size s bs → Kept (s .store) bs
+all-kept {s = s} r =
+    let g = good r in
+    let d = distinct r in
+    record {
+      few = g .few;
+      keys = d .keys;
+      apart = d .apart;
+      aligned = d .aligned;
+      inside = all-fine (λ b. end b ≤ length (s .store)) (λ b f. rw (g .long) (f .inside)) (g .views);
+      code = all-fine (History.Holds (s .store)) (λ b f. f .holds) (g .views);
+    }
+
 pub looks : (index : List ℕ) (space pc : ℕ) (r : Found) → r ≡ Index.lookup index space pc → Looks index space pc r
 looks index space pc r e =
     record {
       bytes = e;
       history = λ h q. e ∙ rw q (looking space pc (good h));
-      code = λ h q. all-hold (good h .views);
+      kept = λ h q. all-kept h;
     }
 
 pub places : (index store : List ℕ) (space pc count : ℕ) (code : List ℕ) (r : Placed) (index′ store′ : List ℕ)
@@ -220,5 +234,5 @@ places index store space pc count code r index′ store′ a b c e =
       bytes = e;
       history = λ h p q. ap (λ (x : Result). x .answer) e ∙ rw (p, q) (step (good h) space pc count code (a, b, c) .answer);
       kept = λ h p q.
-          rw (ap (λ (x : Result). x .store) e, p, q) (all-hold (step (good h) space pc count code (a, b, c) .good .views));
+          rw (ap (λ (x : Result). x .store) e, p, q) (all-kept (called h (Call.place space pc count code) (a, b, c)));
     }

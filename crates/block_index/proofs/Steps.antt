@@ -77,11 +77,14 @@ module _ (m : List ℕ) (space pc p : ℕ) (e : p ≡ slot-of m space pc) where
 
 -- ---- refusal 15
 
-pub accepted : (size n : ℕ) → Model.refused size n ≡ false → (0 < n) × (n ≤ size)
+abbrev Allowed : ℕ → ℕ → Type 0
+Allowed size n = (0 < n) × (n ≤ size) × (n % 4 ≡ 0)
+
+pub accepted : (size n : ℕ) → Model.refused size n ≡ false → Allowed size n
 accepted size n =
-    by-eqb (λ (t : Bool). (t || (not (eqb (n % 4) 0) || ltb size n)) ≡ false → (0 < n) × (n ≤ size)) n 0 (λ z e. absurd (true≢false e))
-    (λ z. by-eqb (λ (t : Bool). (not t || ltb size n) ≡ false → (0 < n) × (n ≤ size)) (n % 4) 0
-    (λ d e. (omega arith, ltb-false size n e)) (λ d e. absurd (true≢false e)))
+    by-eqb (λ (t : Bool). (t || (not (eqb (n % 4) 0) || ltb size n)) ≡ false → Allowed size n) n 0 (λ z e. absurd (true≢false e))
+    (λ z. by-eqb (λ (t : Bool). (not t || ltb size n) ≡ false → Allowed size n) (n % 4) 0
+    (λ d e. (omega arith, ltb-false size n e, d)) (λ d e. absurd (true≢false e)))
 
 module _ (m store : List ℕ) (space pc count : ℕ) (code : List ℕ) where
   pub place-refused : Model.refused (length store) (length code) ≡ true

@@ -47,10 +47,10 @@ having [] = []
 having (x ∷ xs) = cond (eqb (x .length) 0) (having xs) (x ∷ having xs)
 
 module _ {size : ℕ} {store : List ℕ} where
-  pub all-hold : {es : List Entry} {bs : List Block} → Views size store es bs → All (Holds store) bs
-  all-hold none = tt
-  all-hold (dead z v) = all-hold v
-  all-hold (live f v) = (f .holds, all-hold v)
+  pub all-fine : (P : Block → Type 0) → ((b : Block) → Fine size store b → P b) → {es : List Entry} {bs : List Block} → Views size store es bs → All P bs
+  all-fine P p none = tt
+  all-fine P p (dead z v) = all-fine P p v
+  all-fine P p (live {b = b} f v) = (p b f, all-fine P p v)
 
   pub fewer : {es : List Entry} {bs : List Block} → Views size store es bs → length bs ≤ length es
   fewer none = omega arith

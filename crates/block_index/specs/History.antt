@@ -1,8 +1,8 @@
 -- What the operations promise over several calls (document 02, No. 2): from the empty index on, where only these calls
 -- change it and its store and each gets the last state.
-use Prim.Native.Nat.{ℕ, _^_, _<_}
+use Prim.Native.Nat.{ℕ, _%_, _^_, _≤_, _<_}
 use mathlib.Core.Path.{_≡_}
-use mathlib.Core.Bool.{cond}
+use mathlib.Core.Bool.{Bool, false, cond}
 use mathlib.Core.List.{List, [], _∷_}
 use lib.ListN.{length, take, drop}
 use Rattle.rules.specs.Limits.{index-entries}
@@ -24,11 +24,6 @@ abbrev pub Fits : Call → Type 0
 Fits empty = Unit {0}
 Fits (place space pc count code) = (space < 2 ^ 64) × (pc < 2 ^ 64) × (count < 2 ^ 8)
 Fits (lookup space pc) = Unit {0}
-
--- of every element
-abbrev pub All : {A : Type 0} → (A → Type 0) → List A → Type 0
-All P [] = Unit {0}
-All P (x ∷ xs) = P x × All P xs
 
 -- ---- the bytes
 
@@ -60,9 +55,36 @@ pub data Reached (size : ℕ) : State → List Block → Type 0 where
       → Reached size (record { index = emptied index; store = store }) []
   called : {s : State} {bs : List Block} → Reached size s bs → (c : Call) → Fits c → Reached size (after-call s c) (blocks-call size bs c)
 
+-- ---- the blocks
+
+-- of every element
+abbrev pub All : {A : Type 0} → (A → Type 0) → List A → Type 0
+All P [] = Unit {0}
+All P (x ∷ xs) = P x × All P xs
+
+-- of no block and an older one
+abbrev pub Never : (Block → Block → Bool) → List Block → Type 0
+Never test [] = Unit {0}
+Never test (b ∷ bs) = All (λ c. test b c ≡ false) bs × Never test bs
+
 -- the store has a block's code
 abbrev pub Holds : List ℕ → Block → Type 0
 Holds store b = take (length (b .code)) (drop (b .start) store) ≡ b .code
+
+-- a block of whole words, at a whole word
+abbrev pub Aligned : Block → Type 0
+Aligned b = (b .start % 4 ≡ 0) × (length (b .code) % 4 ≡ 0)
+
+-- what holds of the blocks and the store after any calls
+pub record Kept (store : List ℕ) (bs : List Block) : Type 0 where
+  pub few : length bs ≤ index-entries
+  -- no two under one key
+  pub keys : Never Model.same-key bs
+  -- no two share a byte
+  pub apart : Never Model.overlap bs
+  pub aligned : All Aligned bs
+  pub inside : All (λ b. Model.end b ≤ length store) bs
+  pub code : All (Holds store) bs
 
 -- ---- promises
 
@@ -73,7 +95,7 @@ pub record Looks (index : List ℕ) (space pc : ℕ) (r : Found) : Type 0 where
   -- after any calls: the block that was placed last under the key and not dropped
   pub history : {size : ℕ} {s : State} {bs : List Block} → Reached size s bs → index ≡ s .index → r ≡ Model.lookup bs space pc
   -- whose code the store has, as every block's
-  pub code : {size : ℕ} {s : State} {bs : List Block} → Reached size s bs → index ≡ s .index → All (Holds (s .store)) bs
+  pub kept : {size : ℕ} {s : State} {bs : List Block} → Reached size s bs → index ≡ s .index → Kept (s .store) bs
 
 -- of a placing in an index and a store, its answer, and both afterwards
 pub record Places (index store : List ℕ) (space pc count : ℕ) (code : List ℕ) (r : Placed) (index′ store′ : List ℕ) : Type 0 where
@@ -82,6 +104,6 @@ pub record Places (index store : List ℕ) (space pc count : ℕ) (code : List �
   -- after any calls: where the block is, or its refusal
   pub history : {size : ℕ} {s : State} {bs : List Block} → Reached size s bs → index ≡ s .index → store ≡ s .store
       → r ≡ Model.place size bs (length code)
-  -- the store has the code of every block that is not dropped
+  -- the store has the code of every block that is not dropped, and the new one's
   pub kept : {size : ℕ} {s : State} {bs : List Block} → Reached size s bs → index ≡ s .index → store ≡ s .store
-      → All (Holds store′) (blocks-call size bs (place space pc count code))
+      → Kept store′ (blocks-call size bs (place space pc count code))

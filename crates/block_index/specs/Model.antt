@@ -41,6 +41,9 @@ start size bs n = start-after size (last-end bs) n
 abbrev pub has-key : ℕ → ℕ → Block → Bool
 has-key space pc b = eqb (b .space) space && eqb (b .pc) pc
 
+abbrev pub same-key : Block → Block → Bool
+same-key a b = has-key (a .space) (a .pc) b
+
 -- whether two blocks share a byte
 abbrev pub overlap : Block → Block → Bool
 overlap a b = ltb (b .start) (end a) && ltb (a .start) (end b)
@@ -57,7 +60,7 @@ with-room entries bs = cond (ltb (length bs) entries) bs (take (length bs - 1) b
 -- dropped are the block under the same key, then every one that the new one overlaps, then the oldest if the index is still
 -- full, and no other
 abbrev pub placed : ℕ → List Block → Block → List Block
-placed entries bs b = b ∷ with-room entries (without (overlap b) (without (has-key (b .space) (b .pc)) bs))
+placed entries bs b = b ∷ with-room entries (without (overlap b) (without (same-key b) bs))
 
 -- the new block of a placing
 abbrev pub block : ℕ → List Block → ℕ → ℕ → ℕ → List ℕ → Block
