@@ -13,9 +13,10 @@ use Rattle.le.proofs.Splices.{length-splice, splice-there, splice-after, splice
 use Rattle.rules.specs.Limits.{index-entries}
 use Rattle.rules.specs.Refusals as Refusals
 use Rattle.block_log.specs.declared.Entry.{Entry}
-use Rattle.block_log.specs.Log.{index-bytes, bucket, cell, used, emptied}
+use Rattle.block_log.specs.Log.{index-bytes, bucket, cell, used, emptied, walk}
 use Rattle.block_log.proofs.Laws.{bucket-lt}
 use Rattle.block_log.proofs.Tests.{by-test, by-eqb, by-ltb}
+use Rattle.block_log.proofs.Walks.{walk-up}
 use Rattle.block_index.specs.declared.Placed.{Placed}
 use Rattle.block_index.specs.declared.Found.{Found}
 use Rattle.block_index.specs.Model as Model
@@ -25,7 +26,7 @@ use Rattle.block_index.specs.Index.{last-end, start-for, compacted, Resu
 use Rattle.block_index.specs.History as History
 use Rattle.block_index.specs.History.{Call, State, Reached, All, Kept, Looks, Places, after-call, blocks-call}
 use Rattle.block_index.specs.History.Reached.{begun, called}
-use Rattle.block_index.proofs.Steps.{walk-up, accepted}
+use Rattle.block_index.proofs.Steps.{accepted}
 use Rattle.block_index.proofs.Chains.{Lists, empties, pushing, head, head-le, sweep, sweeping, reinserted-from}
 use Rattle.block_index.proofs.Keys.{distinct}
 use Rattle.block_index.proofs.Views.{entry-of, Fine, Views, all-fine, together, finds, fits, reinserts, stays}
@@ -137,7 +138,7 @@ module _ {entries size : ℕ} {m store : List ℕ} {bs : List Block} (some : (1 
       (rw (length-take (entries - 1) kept-bs) (omega arith)) (sweeping m (entry-of new) (entries - 1) (g .es) (g .lists)) v in
       rw (roomy entries kept-bs (some .0) n) record {
         es = entry-of new ∷ c .0;
-        lists = pushing (compacted (Index.swept m (entry-of new) (entries - 1) (used m))) (c .0) (entry-of new) (c .1) (c .3) (fits (g .small) fine);
+        lists = pushing (compacted (Index.swept m (entry-of new) (entries - 1) (used m))) (c .0) (entry-of new) (c .1) (c .3) a (fits (g .small) fine);
         views = live fine (c .2);
         top = a;
         few = rw (length-take (entries - 1) kept-bs) (omega arith);
@@ -190,9 +191,9 @@ good : {size : ℕ} {s : State} {bs : List Block} → Reached size s bs → Good
 good (begun index store l k h) = blank index store l k h
 good (called {s = s} {bs = bs} r c f) = call _ s bs c f (good r)
 
-lookup-is : (m : List ℕ) (space pc k : ℕ) → k ≡ 1023 → Index.lookup m space pc ≡ Index.found-at m (Index.walk m space pc k (cell m (bucket space pc)))
+lookup-is : (m : List ℕ) (space pc k : ℕ) → k ≡ 1023 → Index.lookup m space pc ≡ Index.found-at m (walk m (Index.block-at m space pc) k (cell m (bucket space pc)))
 unfolding Index.lookup
-lookup-is m space pc k e = ap (λ (i : ℕ). Index.found-at m (Index.walk m space pc i (cell m (bucket space pc)))) (sym e)
+lookup-is m space pc k e = ap (λ (i : ℕ). Index.found-at m (walk m (Index.block-at m space pc) i (cell m (bucket space pc)))) (sym e)
 
 pub looking : {entries size : ℕ} {m store : List ℕ} {bs : List Block} (space pc : ℕ) → Good entries size m store bs → Index.lookup m space pc ≡ Model.lookup bs space pc
 looking {m = m} space pc g =
@@ -200,7 +201,7 @@ looking {m = m} space pc g =
     rw (
       lookup-is m space pc (1023 - n + n) (omega (arith, g .lists .last)),
       g .lists .cells (bucket space pc) (bucket-lt space pc),
-      walk-up m space pc (1023 - n) n (head (bucket space pc) (g .es)) (head-le (bucket space pc) (g .es)),
+      walk-up m (Index.block-at m space pc) (1023 - n) n (head (bucket space pc) (g .es)) (head-le (bucket space pc) (g .es)),
     )
     (finds m space pc (g .views) (g .lists .rows))
 

@@ -1,62 +1,20 @@
 -- A step of each loop of the definitions. Assumes nothing.
 use Prim.Native.Nat.{ℕ, zero, suc, _+_, _-_, _%_, _≤_, _<_}
-use mathlib.Core.Path.{_≡_, refl, sym, ap, _∙_}
+use mathlib.Core.Path.{_≡_, refl, ap, _∙_}
 use mathlib.Core.Bool.{Bool, true, false, not, _||_, true≢false}
 use mathlib.Core.List.{List}
-use native.Mathlib.Nat.{zero-add, suc-add}
 use native.Mathlib.Omega.{arith}
 use lib.Dec.{eqb, ltb}
 use lib.ListN.{length}
 use borrow.Author.Tests.{eq-eqb, ne-eqb, lt-ltb, le-ltb, ltb-false}
 use Rattle.block_log.specs.declared.Entry.{Entry}
-use Rattle.block_log.specs.Log.{slots, bucket, cell, used, start-at, length-at, next-at, count-at}
+use Rattle.block_log.specs.Log.{used, start-at, length-at, count-at}
 use Rattle.block_log.proofs.Tests.{by-eqb, by-ltb}
-use Rattle.block_index.specs.Index.{key-at, block-at, walk, slot-of, found-at, lookup, last-end, start-for, overlap-at, evicts, swept-at, room-at, swept, reinserted-at, reinserted, result, placed-at, place}
+use Rattle.block_index.specs.Index.{key-at, slot-of, found-at, lookup, last-end, start-for, overlap-at, evicts, swept-at, room-at, swept, reinserted-at, reinserted, result, placed-at, place}
 use Rattle.block_index.specs.Model as Model
 use Rattle.block_index.specs.declared.Found.{Found}
 
--- ---- the walk along a chain
-
-module _ (m : List ℕ) (space pc : ℕ) where
-  walk-high : (k p : ℕ) → k < p → walk m space pc k p ≡ 0
-  unfolding walk
-  walk-high zero p h = refl
-  walk-high (suc k) p h = rw (ne-eqb p (suc k) (λ e. omega arith)) (walk-high k p (omega arith))
-
-  -- slots above that from which the chain goes on are passed over
-  pub walk-past : (k p : ℕ) → p ≤ k → walk m space pc (suc k) p ≡ walk m space pc k p
-  unfolding walk
-  walk-past k p h = rw (ne-eqb p (suc k) (λ e. omega arith))
-
-  pub walk-up : (d k p : ℕ) → p ≤ k → walk m space pc (d + k) p ≡ walk m space pc k p
-  walk-up zero k p h = rw (zero-add k)
-  walk-up (suc d) k p h = rw (suc-add d k) (walk-past (d + k) p (omega arith) ∙ walk-up d k p h)
-
-  walk-down : (k p : ℕ) → p ≤ k → walk m space pc k p ≡ walk m space pc p p
-  walk-down k p h = let e : k ≡ k - p + p = omega arith in rw e (walk-up (k - p) p p (omega arith))
-
-  pub walk-start : (b p : ℕ) → b ≡ bucket space pc → p ≡ cell m b → p < slots → walk m space pc p p ≡ slot-of m space pc
-  walk-start b p eb ep h = rw (← eb, ← ep) (sym (walk-down 1023 p (omega arith)))
-
-  pub walk-none : (p r : ℕ) → p ≡ 0 → walk m space pc p p ≡ r → 0 ≡ r
-  unfolding walk
-  walk-none p r e h = rw e at h
-
-  pub walk-hit : (p : ℕ) → (p ≡ 0 → ⊥) → block-at m space pc p ≡ true → walk m space pc p p ≡ p
-  unfolding walk
-  walk-hit zero h e = refl
-  walk-hit (suc k) h e = rw (eq-eqb (suc k) (suc k) refl, e)
-
-  pub walk-on : (p : ℕ) → (p ≡ 0 → ⊥) → block-at m space pc p ≡ false → next-at m p < p
-      → walk m space pc p p ≡ walk m space pc (next-at m p) (next-at m p)
-  unfolding walk
-  walk-on zero h e l = absurd (h refl)
-  walk-on (suc k) h e l = rw (eq-eqb (suc k) (suc k) refl, e) (walk-down k (next-at m (suc k)) (omega arith))
-
-  pub walk-end : (p : ℕ) → (p ≡ 0 → ⊥) → block-at m space pc p ≡ false → p ≤ next-at m p → walk m space pc p p ≡ 0
-  unfolding walk
-  walk-end zero h e l = refl
-  walk-end (suc k) h e l = rw (eq-eqb (suc k) (suc k) refl, e) (walk-high k (next-at m (suc k)) (omega arith))
+-- ---- lookup
 
 found-zero : (m : List ℕ) (p : ℕ) → p ≡ 0 → Model.no-block ≡ found-at m p
 found-zero m p z = rw (eq-eqb p 0 z)

@@ -3,20 +3,19 @@ use mathlib.Core.Path.{_≡_, refl, ap}
 use mathlib.Core.Bool.{Bool, true, false, cond, _&&_, _||_, and-true, and-false}
 use mathlib.Core.List.{List, [], _∷_, map}
 use Prim.Native.Nat.{ℕ, zero, suc, _-_, _^_, _≤_, _<_}
-use native.Mathlib.Nat.{sub-zero}
 use native.Mathlib.Omega.{arith}
 use lib.Dec.{eqb}
 use lib.Seq.{take-nil}
 use lib.ListN.{length, take, length-map}
 use borrow.Author.Tests.{eq-eqb, ne-eqb}
 use Rattle.block_log.specs.declared.Entry.{Entry}
-use Rattle.block_log.specs.Log.{bucket, entry-at}
-use Rattle.block_log.proofs.Laws.{Fits, marked}
+use Rattle.block_log.specs.Log.{bucket, entry-at, walk}
+use Rattle.block_log.proofs.Laws.{Fits, tomb}
 use Rattle.block_log.proofs.Tests.{by-test}
 use Rattle.rules.specs.Refusals as Refusals
 use Rattle.block_index.specs.Model as Model
 use Rattle.block_index.specs.Model.{Block, end, overlap, without}
-use Rattle.block_index.specs.Index.{found-at, walk, reinserted}
+use Rattle.block_index.specs.Index.{block-at, found-at, reinserted}
 use Rattle.block_index.specs.History.{All, Holds}
 use Rattle.block_index.proofs.Chains.{Rows, head, Reinserts, reinsert-none, reinsert-one, walk-step, sweep}
 
@@ -71,14 +70,14 @@ module _ {size : ℕ} {store : List ℕ} where
   -- ---- lookup
 
   pub finds : (m : List ℕ) (space pc : ℕ) {es : List Entry} {bs : List Block} → Views size store es bs → Rows m es
-      → found-at m (walk m space pc (length es) (head (bucket space pc) es)) ≡ Model.lookup bs space pc
+      → found-at m (walk m (block-at m space pc) (length es) (head (bucket space pc) es)) ≡ Model.lookup bs space pc
   unfolding walk
   finds m space pc none r = refl
   finds m space pc (dead {x = x} {xs = xs} z v) r =
       rw (walk-step m space pc x xs r, eq-eqb (x .length) 0 z, and-false (eqb (x .space) space && eqb (x .pc) pc)) (finds m space pc v (r .2))
   finds m space pc (live {xs = xs} {b = b} {bs = bs} f v) r =
       rw (walk-step m space pc (entry-of b) xs r, ne-eqb (length (b .code)) 0 (λ e. omega (arith, f .some)), and-true (eqb (b .space) space && eqb (b .pc) pc))
-      (by-test (λ (t : Bool). found-at m (cond t (suc (length xs)) (walk m space pc (length xs) (head (bucket space pc) xs))) ≡ cond t (Model.found b) (Model.lookup bs space pc))
+      (by-test (λ (t : Bool). found-at m (cond t (suc (length xs)) (walk m (block-at m space pc) (length xs) (head (bucket space pc) xs))) ≡ cond t (Model.found b) (Model.lookup bs space pc))
       (Model.has-key space pc b) (λ q. found-at-is m (length xs) b (r .0)) (λ q. finds m space pc v (r .2)))
 
   -- ---- the reinserting
@@ -98,15 +97,15 @@ module _ {size : ℕ} {store : List ℕ} where
 
 module _ {size : ℕ} {store store′ : List ℕ} (b : Block) (keeps : (c : Block) → overlap b c ≡ false → Fine size store c → Fine size store′ c) where
   abbrev stay : List Block → List Block
-  stay bs = without (overlap b) (without (Model.has-key (b .space) (b .pc)) bs)
+  stay bs = without (overlap b) (without (Model.same-key b) bs)
 
   module _ (xs : List Entry) where
     stays-live : (c : Block) (bs : List Block) → Fine size store c
         → ((room : ℕ) → Views size store′ (sweep (entry-of b) room xs) (take room (stay bs)))
         → (key over : Bool) (room : ℕ) → overlap b c ≡ over
-        → let goes = key || (over || eqb room 0) in
-        Views size store′ (marked goes (entry-of c) ∷ sweep (entry-of b) (cond goes room (room - 1)) xs)
-        (take room (without (overlap b) (cond key (without (Model.has-key (b .space) (b .pc)) bs) (c ∷ without (Model.has-key (b .space) (b .pc)) bs))))
+        → Views size store′
+        (cond (key || (over || eqb room 0)) (tomb (entry-of c) ∷ sweep (entry-of b) room xs) (entry-of c ∷ sweep (entry-of b) (room - 1) xs))
+        (take room (without (overlap b) (cond key (without (Model.same-key b) bs) (c ∷ without (Model.same-key b) bs))))
     stays-live c bs f v true over room q = dead refl (v room)
     stays-live c bs f v false true room q = rw q (dead refl (v room))
     stays-live c bs f v false false zero q = dead refl (v zero)
@@ -117,6 +116,6 @@ module _ {size : ℕ} {store store′ : List ℕ} (b : Block) (keeps : (c : Bloc
   pub stays : (room : ℕ) {es : List Entry} {bs : List Block} → Views size store es bs
       → Views size store′ (sweep (entry-of b) room es) (take room (stay bs))
   stays room none = rw (take-nil {A = Block} room) none
-  stays room (dead {x = x} z v) = rw (eq-eqb (x .length) 0 z, sub-zero room) (dead z (stays room v))
+  stays room (dead {x = x} z v) = rw (eq-eqb (x .length) 0 z) (dead z (stays room v))
   stays room (live {xs = xs} {b = c} {bs = bs} f v) =
-      rw (ne-eqb (length (c .code)) 0 (λ e. omega (arith, f .some))) (stays-live xs c bs f (λ r. stays r v) (Model.has-key (b .space) (b .pc) c) (overlap b c) room refl)
+      rw (ne-eqb (length (c .code)) 0 (λ e. omega (arith, f .some))) (stays-live xs c bs f (λ r. stays r v) (Model.same-key b c) (overlap b c) room refl)

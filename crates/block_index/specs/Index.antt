@@ -8,7 +8,7 @@ use Rattle.le.specs.Le.{splice}
 use Rattle.rules.specs.Limits.{index-entries}
 use Rattle.rules.specs.Refusals as Refusals
 use Rattle.block_log.specs.declared.Entry.{Entry}
-use Rattle.block_log.specs.Log.{slots, bucket, cell, used, emptied, space-at, pc-at, start-at, length-at, next-at, count-at, entry-at, dropped, pushed}
+use Rattle.block_log.specs.Log.{slots, bucket, cell, used, emptied, space-at, pc-at, start-at, length-at, count-at, entry-at, tombstone, walk, dropped, pushed}
 use Rattle.block_index.specs.Model as Model
 use Rattle.block_index.specs.declared.Placed.{Placed}
 use Rattle.block_index.specs.declared.Found.{Found}
@@ -20,17 +20,11 @@ key-at m space pc p = eqb (space-at m p) space && eqb (pc-at m p) pc
 
 -- whether the block under a key stands at a slot
 abbrev pub block-at : List ℕ → ℕ → ℕ → ℕ → Bool
-block-at m space pc p = key-at m space pc p && not (eqb (length-at m p) 0)
+block-at m space pc p = key-at m space pc p && not (tombstone m p)
 
--- the first slot of a chain that has the block, 0 where none has: the chain goes on from slot p at slot k or below, and
--- its slots' numbers fall
-unfoldable pub walk : List ℕ → ℕ → ℕ → ℕ → ℕ → ℕ
-walk m space pc zero p = 0
-walk m space pc (suc k) p =
-    cond (eqb p (suc k)) (cond (block-at m space pc p) p (walk m space pc k (next-at m p))) (walk m space pc k p)
-
+-- the slot of the block under a key, 0 where there is none
 abbrev pub slot-of : List ℕ → ℕ → ℕ → ℕ
-slot-of m space pc = walk m space pc (slots - 1) (cell m (bucket space pc))
+slot-of m space pc = walk m (block-at m space pc) (slots - 1) (cell m (bucket space pc))
 
 abbrev pub found-at : List ℕ → ℕ → Found
 found-at m p =
@@ -61,20 +55,12 @@ overlap-at m start end p = ltb (start-at m p) end && ltb start (start-at m p + l
 abbrev pub evicts : List ℕ → Entry → ℕ → ℕ → Bool
 evicts m e room p = key-at m (e .space) (e .pc) p || (overlap-at m (e .start) (e .start + e .length) p || eqb room 0)
 
--- whether the block at a slot is evicted
-abbrev pub goes : List ℕ → Entry → ℕ → ℕ → Bool
-goes m e room p = not (eqb (length-at m p) 0) && evicts m e room p
-
--- a slot that has a block
-abbrev pub live : List ℕ → ℕ → ℕ
-live m p = cond (eqb (length-at m p) 0) 0 1
-
 -- a slot without the block that is evicted, and for how many others there is room then
 abbrev pub swept-at : List ℕ → Entry → ℕ → ℕ → List ℕ
-swept-at m e room p = cond (goes m e room p) (dropped m p) m
+swept-at m e room p = cond (tombstone m p) m (cond (evicts m e room p) (dropped m p) m)
 
 abbrev pub room-at : List ℕ → Entry → ℕ → ℕ → ℕ
-room-at m e room p = cond (goes m e room p) room (room - live m p)
+room-at m e room p = cond (tombstone m p) room (cond (evicts m e room p) room (room - 1))
 
 -- slots k to 1 without the blocks that are evicted
 unfoldable pub swept : List ℕ → Entry → ℕ → ℕ → List ℕ
@@ -83,7 +69,7 @@ swept m e room (suc k) = swept (swept-at m e room (suc k)) e (room-at m e room (
 
 -- the block of a slot, pushed again
 abbrev pub reinserted-at : List ℕ → ℕ → List ℕ
-reinserted-at m p = cond (eqb (length-at m p) 0) m (pushed m (entry-at m p))
+reinserted-at m p = cond (tombstone m p) m (pushed m (entry-at m p))
 
 -- those of the k slots from p on
 unfoldable pub reinserted : List ℕ → ℕ → ℕ → List ℕ

@@ -1,3 +1,4 @@
 pub mod Emptying
 pub mod Tests
+pub mod Walks
 pub mod Laws

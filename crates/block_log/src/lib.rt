@@ -124,11 +124,47 @@ fn put(m: &mut [u8], p: u16, e: Entry, next: u16)
     put_count(m, p, e.count);
 }
 
-// The block at a slot is dropped.
+// The slot before p in the chain with this head, 0 where there is none. In a log that the calls made, the slots of a chain fall.
+fn previous(m: &[u8], head: u16, p: u16) -> u16
+    requires { ⌜ (length (now m) ≡ L.index-bytes) × (head < L.slots) ⌝ }
+    ensures { λ r. ⌜ (r ≡ L.previous (now (m .entry)) head p) × (r < L.slots) ⌝ }
+{
+    let mut q = head;
+    while q != 0 {
+        let next = next_at(m, q);
+        if next == p {
+            return q;
+        }
+        if q <= next {
+            return 0;
+        }
+        q = next;
+    }
+    0
+}
+
+// Takes slot p out of bucket b's chain.
+fn unlink(m: &mut [u8], b: usize, p: u16)
+    requires { ⌜ (length (now m) ≡ L.index-bytes) × (b < L.buckets) × (p < L.slots) ⌝ }
+    ensures { λ r. ⌜ now (m .exit) ≡ L.unlinked (now (m .entry)) b p ⌝ }
+{
+    let next = next_at(m, p);
+    let head = cell(m, b);
+    if head == p {
+        le::store16(m, 2 * b, next);
+        return;
+    }
+    let q = previous(m, head, p);
+    le::store16(m, LOG + SLOT_BYTES * q as usize + 32, next);
+}
+
+// The block at a slot is dropped: the slot is a tombstone, and in no chain.
 pub fn drop_at(m: &mut [u8], p: u16)
     requires { ⌜ (length (now m) ≡ L.index-bytes) × (p < L.slots) ⌝ }
     ensures { λ r. ⌜ now (m .exit) ≡ L.dropped (now (m .entry)) p ⌝ }
 {
+    let b = bucket(space_at(m, p), pc_at(m, p));
+    unlink(m, b, p);
     le::store64(m, LOG + SLOT_BYTES * p as usize + 24, 0);
 }
 

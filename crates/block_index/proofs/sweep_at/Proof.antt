@@ -1,13 +1,12 @@
 use borrow.Author.Needs.{needs}
 use Rattle.block_index.proofs.Steps.{stays-room}
 use borrow.Author.Tests.{eq-eqb, ne-eqb}
-use native.Mathlib.Nat.{sub-zero}
 use native.Mathlib.Omega.{arith}
 use Rattle.block_index.proofs.sweep_at.Statement.{statement}
 use Rattle.block_index.proofs.sweep_at.Tie as tie
 
 returns : tie.Need-returns
-returns c = let z = rw (c .before .length-at .ensures) at (c .if1 .taken) in (rw (eq-eqb _ _ z), rw (eq-eqb _ _ z, sub-zero))
+returns c = let z = rw (c .before .length-at .ensures) at (c .if1 .taken) in (rw (eq-eqb _ _ z), rw (eq-eqb _ _ z))
 
 returns-2 : tie.Need-returns-2
 returns-2 c =
