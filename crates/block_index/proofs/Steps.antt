@@ -10,7 +10,7 @@ use borrow.Author.Tests.{eq-eqb, ne-eqb, lt-ltb, le-ltb, ltb-false}
 use Rattle.block_log.specs.declared.Entry.{Entry}
 use Rattle.block_log.specs.Log.{used, start-at, length-at, count-at}
 use Rattle.block_log.proofs.Tests.{by-eqb, by-ltb}
-use Rattle.block_index.specs.Index.{key-at, slot-of, found-at, lookup, last-end, start-for, overlap-at, evicts, swept-at, room-at, swept, reinserted-at, reinserted, result, placed-at, place}
+use Rattle.block_index.specs.Index.{slot-of, found-at, lookup, last-end, start-for, overlap-at, swept-at, room-at, swept, reinserted-at, reinserted, result, placed-at, place}
 use Rattle.block_index.specs.Model as Model
 use Rattle.block_index.specs.declared.Found.{Found}
 
@@ -77,16 +77,6 @@ module _ (m : List ℕ) (start end p s : ℕ) (es : s ≡ start-at m p) (h : s <
   overlap-after l el k =
       rw (← es, ← el, lt-ltb s end h)
       (by-ltb (λ (t : Bool). ltb (start - s) l ≡ t) start (s + l) (λ q. lt-ltb (start - s) l (omega arith)) (λ q. le-ltb (start - s) l (omega arith)))
-
--- a block that stays has room
-either : (a b : Bool) (room : ℕ) → (a || (b || eqb room 0)) ≡ false → 0 < room
-either true b room h = let z : _≡_ {A = ℕ} 0 1 = cc in omega arith
-either false true room h = let z : _≡_ {A = ℕ} 0 1 = cc in omega arith
-either false false zero h = let z : _≡_ {A = ℕ} 0 1 = cc in omega arith
-either false false (suc room) h = omega arith
-
-pub stays-room : (m : List ℕ) (e : Entry) (room p : ℕ) → evicts m e room p ≡ false → 0 < room
-stays-room m e room p h = either (key-at m (e .space) (e .pc) p) (overlap-at m (e .start) (e .start + e .length) p) room h
 
 pub swept-step : (m : List ℕ) (e : Entry) (room p : ℕ) → (p ≡ 0 → ⊥)
     → swept m e room p ≡ swept (swept-at m e room p) e (room-at m e room p) (p - 1)

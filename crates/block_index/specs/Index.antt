@@ -1,6 +1,6 @@
 -- What each operation of the index does to its bytes and the store's, for any bytes. specs/Log.antt of block_log has the layout.
 use Prim.Native.Nat.{ℕ, zero, suc, _+_, _-_}
-use mathlib.Core.Bool.{Bool, cond, not, _&&_, _||_}
+use mathlib.Core.Bool.{Bool, cond, _&&_, _||_}
 use mathlib.Core.List.{List}
 use lib.Dec.{eqb, ltb}
 use lib.ListN.{length}
@@ -18,13 +18,9 @@ use Rattle.block_index.specs.declared.Found.{Found}
 abbrev pub key-at : List ℕ → ℕ → ℕ → ℕ → Bool
 key-at m space pc p = eqb (space-at m p) space && eqb (pc-at m p) pc
 
--- whether the block under a key stands at a slot
-abbrev pub block-at : List ℕ → ℕ → ℕ → ℕ → Bool
-block-at m space pc p = key-at m space pc p && not (tombstone m p)
-
 -- the slot of the block under a key, 0 where there is none
 abbrev pub slot-of : List ℕ → ℕ → ℕ → ℕ
-slot-of m space pc = walk m (block-at m space pc) (slots - 1) (cell m (bucket space pc))
+slot-of m space pc = walk m (key-at m space pc) (slots - 1) (cell m (bucket space pc))
 
 abbrev pub found-at : List ℕ → ℕ → Found
 found-at m p =
@@ -51,16 +47,16 @@ start-for m size n = Model.start-after size (last-end m size) n
 abbrev pub overlap-at : List ℕ → ℕ → ℕ → ℕ → Bool
 overlap-at m start end p = ltb (start-at m p) end && ltb start (start-at m p + length-at m p)
 
--- whether a new block evicts the one at a slot, where `room` more may stay
-abbrev pub evicts : List ℕ → Entry → ℕ → ℕ → Bool
-evicts m e room p = key-at m (e .space) (e .pc) p || (overlap-at m (e .start) (e .start + e .length) p || eqb room 0)
+-- whether a new block evicts the one at a slot: it has its key or shares a byte
+abbrev pub evicts : List ℕ → Entry → ℕ → Bool
+evicts m e p = key-at m (e .space) (e .pc) p || overlap-at m (e .start) (e .start + e .length) p
 
--- a slot without the block that is evicted, and for how many others there is room then
+-- a slot without the block that is evicted, or for which there is no room, and for how many others there is room then
 abbrev pub swept-at : List ℕ → Entry → ℕ → ℕ → List ℕ
-swept-at m e room p = cond (tombstone m p) m (cond (evicts m e room p) (dropped m p) m)
+swept-at m e room p = cond (tombstone m p) m (cond (eqb room 0 || evicts m e p) (dropped m p) m)
 
 abbrev pub room-at : List ℕ → Entry → ℕ → ℕ → ℕ
-room-at m e room p = cond (tombstone m p) room (cond (evicts m e room p) room (room - 1))
+room-at m e room p = cond (tombstone m p) room (cond (eqb room 0 || evicts m e p) room (room - 1))
 
 -- slots k to 1 without the blocks that are evicted
 unfoldable pub swept : List ℕ → Entry → ℕ → ℕ → List ℕ

@@ -35,17 +35,6 @@ fn key_at(m: &[u8], space: u64, pc: u64, p: u16) -> bool
     block_log::pc_at(m, p) == pc
 }
 
-// Whether the block under a key stands at a slot.
-fn block_at(m: &[u8], space: u64, pc: u64, p: u16) -> bool
-    requires { ⌜ (length (now m) ≡ L.index-bytes) × (p < L.slots) ⌝ }
-    ensures { λ r. ⌜ r ≡ I.block-at (now (m .entry)) space pc p ⌝ }
-{
-    if key_at(m, space, pc, p) {
-        return block_log::length_at(m, p) != 0;
-    }
-    false
-}
-
 // The slot of the block under a key, 0 where there is none. In a log that the calls made, the slots of a chain fall.
 fn slot_of(m: &[u8], space: u64, pc: u64) -> u16
     requires { ⌜ length (now m) ≡ L.index-bytes ⌝ }
@@ -53,7 +42,7 @@ fn slot_of(m: &[u8], space: u64, pc: u64) -> u16
 {
     let mut p = block_log::cell(m, block_log::bucket(space, pc));
     while p != 0 {
-        if block_at(m, space, pc, p) {
+        if key_at(m, space, pc, p) {
             return p;
         }
         let next = block_log::next_at(m, p);
@@ -147,21 +136,18 @@ fn overlap_at(m: &[u8], start: u64, end: u64, p: u16) -> bool
     start - other < block_log::length_at(m, p)
 }
 
-// Whether a new block evicts the one at a slot, where `room` more may stay.
-fn evicts(m: &[u8], e: Entry, room: u64, p: u16) -> bool
+// Whether a new block evicts the one at a slot: it has its key or shares a byte.
+fn evicts(m: &[u8], e: Entry, p: u16) -> bool
     requires { ⌜ (length (now m) ≡ L.index-bytes) × (p < L.slots) × (e .start + e .length < 2 ^ 64) ⌝ }
-    ensures { λ r. ⌜ r ≡ I.evicts (now (m .entry)) e room p ⌝ }
+    ensures { λ r. ⌜ r ≡ I.evicts (now (m .entry)) e p ⌝ }
 {
     if key_at(m, e.space, e.pc, p) {
         return true;
     }
-    if overlap_at(m, e.start, e.start + e.length, p) {
-        return true;
-    }
-    room == 0
+    overlap_at(m, e.start, e.start + e.length, p)
 }
 
-// Drops the block at a slot if it is evicted; for how many others there is room then.
+// Drops the block at a slot if it is evicted or there is no room for it; for how many others there is room then.
 fn sweep_at(m: &mut [u8], e: Entry, room: u64, p: u16) -> u64
     requires { ⌜ (length (now m) ≡ L.index-bytes) × (p < L.slots) × (e .start + e .length < 2 ^ 64) ⌝ }
     ensures { λ r. ⌜ (now (m .exit) ≡ I.swept-at (now (m .entry)) e room p) × (r ≡ I.room-at (now (m .entry)) e room p) ⌝ }
@@ -169,7 +155,11 @@ fn sweep_at(m: &mut [u8], e: Entry, room: u64, p: u16) -> u64
     if block_log::length_at(m, p) == 0 {
         return room;
     }
-    if evicts(m, e, room, p) {
+    if room == 0 {
+        block_log::drop_at(m, p);
+        return room;
+    }
+    if evicts(m, e, p) {
         block_log::drop_at(m, p);
         return room;
     }

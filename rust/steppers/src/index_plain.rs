@@ -1,11 +1,12 @@
-//! A plain index of the library's design, with native numbers: a log of places, linked from the cells of a hash table.
-//! A block that is dropped stays in the log, with length 0, until the log is full and the others move together.
+//! A plain index of the library's design, with native numbers: a log of slots, linked from the cells of a hash table.
+//! The slot of a block that is dropped leaves its chain at once, and stays in the log, with length 0, until the log is full
+//! and the others move together.
 
 use crate::index_model::Key;
 
 const ENTRIES: usize = 512;
 const CELLS: usize = 2_048;
-const PLACES: usize = 1_024;
+const SLOTS: usize = 1_024;
 
 /// What a lookup answers.
 #[derive(Clone, Copy, Debug, PartialEq, Eq)]
@@ -16,28 +17,28 @@ pub struct Found {
 }
 
 #[derive(Clone, Copy, Default)]
-struct Place {
+struct Slot {
     key: Key,
     start: usize,
     /// 0 where the block is dropped.
     length: usize,
-    /// The newest place before it in its cell, 0 where none.
+    /// The next slot of its chain, which is older, 0 where none.
     next: u16,
     count: u8,
 }
 
 pub struct PlainIndex {
-    /// The newest place of each cell, 0 where none.
+    /// The head of each cell's chain, 0 where none.
     cells: [u16; CELLS],
-    /// Place 0 is not used.
-    places: [Place; PLACES],
-    /// The last place used.
+    /// Slot 0 is not used.
+    slots: [Slot; SLOTS],
+    /// The last slot used.
     used: usize,
 }
 
 impl Default for PlainIndex {
     fn default() -> PlainIndex {
-        PlainIndex { cells: [0; CELLS], places: [Place::default(); PLACES], used: 0 }
+        PlainIndex { cells: [0; CELLS], slots: [Slot::default(); SLOTS], used: 0 }
     }
 }
 
@@ -68,10 +69,10 @@ impl PlainIndex {
         }
         let start = self.start(length, store.len());
         self.sweep(key, start, start + length);
-        if self.used == PLACES - 1 {
+        if self.used == SLOTS - 1 {
             self.compact();
         }
-        self.push(Place { key, start, length, next: 0, count });
+        self.push(Slot { key, start, length, next: 0, count });
         store[start..start + length].copy_from_slice(code);
         Some(start)
     }
@@ -80,12 +81,12 @@ impl PlainIndex {
     pub fn lookup(&self, key: Key) -> Option<Found> {
         let mut p = self.cells[cell(key)];
         while p != 0 {
-            let place = &self.places[p as usize];
-            if place.key == key && place.length != 0 {
-                let Place { start, length, count, .. } = *place;
+            let slot = &self.slots[p as usize];
+            if slot.key == key {
+                let Slot { start, length, count, .. } = *slot;
                 return Some(Found { start, length, count });
             }
-            p = place.next;
+            p = slot.next;
         }
         None
     }
@@ -94,7 +95,7 @@ impl PlainIndex {
         if self.used == 0 {
             return 0;
         }
-        let newest = &self.places[self.used];
+        let newest = &self.slots[self.used];
         let end = newest.start + newest.length;
         if end + length <= room {
             end
@@ -106,34 +107,45 @@ impl PlainIndex {
     /// Drops the block under the key, those that share a byte, and the oldest beyond 511.
     fn sweep(&mut self, key: Key, start: usize, end: usize) {
         let mut room = ENTRIES - 1;
-        for place in self.places[1..=self.used].iter_mut().rev() {
-            if place.length == 0 {
+        for p in (1..=self.used).rev() {
+            let slot = &self.slots[p];
+            if slot.length == 0 {
                 continue;
             }
-            let overlaps = place.start < end && start < place.start + place.length;
-            if place.key == key || overlaps || room == 0 {
-                place.length = 0;
+            let overlaps = slot.start < end && start < slot.start + slot.length;
+            if slot.key == key || overlaps || room == 0 {
+                self.drop_at(p);
             } else {
                 room -= 1;
             }
         }
     }
 
+    fn drop_at(&mut self, p: usize) {
+        let Slot { key, next, .. } = self.slots[p];
+        let mut link = &mut self.cells[cell(key)];
+        while *link != p as u16 {
+            link = &mut self.slots[*link as usize].next;
+        }
+        *link = next;
+        self.slots[p].length = 0;
+    }
+
     fn compact(&mut self) {
         let last = self.used;
         self.empty();
         for p in 1..=last {
-            let place = self.places[p];
-            if place.length != 0 {
-                self.push(place);
+            let slot = self.slots[p];
+            if slot.length != 0 {
+                self.push(slot);
             }
         }
     }
 
-    fn push(&mut self, place: Place) {
-        let cell = &mut self.cells[cell(place.key)];
+    fn push(&mut self, slot: Slot) {
+        let cell = &mut self.cells[cell(slot.key)];
         self.used += 1;
-        self.places[self.used] = Place { next: *cell, ..place };
+        self.slots[self.used] = Slot { next: *cell, ..slot };
         *cell = self.used as u16;
     }
 }

@@ -6,18 +6,7 @@ returns : tie.Need-returns
 returns c = rw (← c .before .key-at .ensures, c .if1 .taken)
 
 returns-2 : tie.Need-returns-2
-returns-2 c = rw (← c .before .before .before .before .key-at .ensures, c .before .before .before .if1 .left, ← c .before .overlap-at .ensures, c .if2 .taken)
-
-returns-3 : tie.Need-returns-3
-returns-3 c = rw (← c .before .before .before .before .key-at .ensures, c .before .before .before .if1 .left, ← c .before .overlap-at .ensures, c .if2 .left)
+returns-2 c = rw (← c .before .before .before .key-at .ensures, c .before .before .if1 .left, c .overlap-at .ensures)
 
 pub evicts-spec : {M : Type 1} → statement M
-evicts-spec =
-    tie.close
-    (tie.spec
-    (λ c κs. search needs)
-    returns
-    (λ c. search needs)
-    (λ c κs. search needs)
-    returns-2
-    returns-3)
+evicts-spec = tie.close (tie.spec (λ c κs. search needs) returns (λ c. search needs) (λ c κs. search needs) returns-2)
