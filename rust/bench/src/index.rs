@@ -1,7 +1,7 @@
 //! The index beside a plain one of the same design, and its lookup beside the standard library's `HashMap`.
 
 use crate::{row, SEED, UNITS};
-use draw::index::key;
+use draw::index::{hash, key};
 use draw::Random;
 use hilofanur::{boundary, INDEX_BYTES};
 use std::collections::HashMap;
@@ -26,9 +26,18 @@ pub fn rows() {
     ] {
         lookups(name, placings);
     }
+    for blocks in [1, 4, 16] {
+        in_turn(blocks);
+    }
+    again();
     place("Index place, the oldest dropped", LARGE, 1 << 40);
     place("Index place, one overlapped", SMALL, 1 << 40);
     place("Index place, 256 keys again", LARGE, 256);
+    place("Index place, 1 key again", LARGE, 1);
+    for blocks in [1, 4, 16] {
+        let name = format!("Index place, {} keys in {blocks}", blocks + 1);
+        place(&name, blocks * LENGTH, blocks as u64 + 1);
+    }
 }
 
 /// Both indices after the same placings, each with its store.
@@ -90,6 +99,44 @@ fn lookups(name: &str, placings: usize) {
     }
     let misses: Vec<Key> = (0..UNITS).map(|_| key(&mut both.random)).collect();
     beside(&format!("Lookup miss, {name}"), &both, &map, &misses);
+}
+
+/// Lookups as the log is full of dropped blocks: under keys in turn, one more than the store holds blocks.
+fn in_turn(blocks: usize) {
+    let keys: Vec<Key> = (0..=blocks as u64).map(|n| (0, n)).collect();
+    let name = format!("{} keys in {blocks}", keys.len());
+    full_log(&name, blocks * LENGTH, &keys, keys.iter().cycle());
+}
+
+/// The same under one key again and again, after another of its bucket; a third is never placed.
+fn again() {
+    let mut bucket =
+        (0..).map(|pc| (0, pc)).filter(|&key| hash(key) % 2_048 == hash((0, 0)) % 2_048);
+    let keys: [Key; 3] = std::array::from_fn(|_| bucket.next().unwrap());
+    full_log(
+        "1 key again",
+        LARGE,
+        &keys,
+        [&keys[0]].into_iter().chain(std::iter::repeat(&keys[1])),
+    );
+}
+
+/// Lookups of these keys after 1,022 placings: those that find their block, and those that do not.
+fn full_log<'a>(name: &str, store: usize, keys: &[Key], placed: impl Iterator<Item = &'a Key>) {
+    let mut both = Both::new(store);
+    placed.take(1_022).for_each(|&key| both.place(key));
+    let Both { index, plain, .. } = &both;
+    let found = |key: &&Key| plain.lookup(**key).is_some();
+    let (hits, misses): (Vec<&Key>, Vec<&Key>) = keys.iter().partition(found);
+    for (kind, keys) in [("hit", hits), ("miss", misses)] {
+        let keys: Vec<Key> = keys.into_iter().copied().cycle().take(UNITS).collect();
+        assert!(keys.iter().all(|&key| proved_lookup(index, key) == plain.lookup(key)));
+        let proved =
+            |&(space, pc): &Key| boundary::index_lookup(index, hilofanur::Key { space, pc });
+        row(&format!("Lookup {kind}, {name}"), (UNITS, "call"), &keys, proved, |&key| {
+            plain.lookup(key)
+        });
+    }
 }
 
 fn beside(name: &str, Both { index, plain, .. }: &Both, map: &Map, keys: &[Key]) {

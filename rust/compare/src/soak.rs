@@ -54,8 +54,8 @@ pub fn soak(count: u64, seed: u64) -> bool {
 impl Soak {
     /// The calls, and the lookup's time before and after them; or the first difference.
     fn live(&mut self, count: u64) -> Result<(), String> {
-        let (hit, miss) = self.lookup_time()?;
-        println!("soak: a lookup at the start: found {hit:.1} ns, not found {miss:.1} ns");
+        let [hit, miss, dropped] = self.lookup_time()?;
+        println!("soak: a lookup at the start: found {hit:.1} ns, not found {miss:.1} ns, dropped {dropped:.1} ns");
         let mut shown = Instant::now();
         for call in 0..count {
             if call % CALLS == 0 {
@@ -70,8 +70,8 @@ impl Soak {
             }
         }
         self.whole()?;
-        let (hit, miss) = self.lookup_time()?;
-        println!("soak: a lookup at the end: found {hit:.1} ns, not found {miss:.1} ns");
+        let [hit, miss, dropped] = self.lookup_time()?;
+        println!("soak: a lookup at the end: found {hit:.1} ns, not found {miss:.1} ns, dropped {dropped:.1} ns");
         Ok(())
     }
 
@@ -114,21 +114,27 @@ impl Soak {
         Ok(())
     }
 
-    /// Nanoseconds of a lookup that finds a block of 512, and of one that finds none: the mean of moments some placings
-    /// apart, between which dropped blocks gather and are cleared away.
-    fn lookup_time(&mut self) -> Result<(f64, f64), String> {
+    /// Nanoseconds of a lookup that finds a block of 512, of one that finds none, and of one under the key of a block that
+    /// was dropped: the mean of moments some placings apart, between which dropped blocks gather and are cleared away.
+    fn lookup_time(&mut self) -> Result<[f64; 3], String> {
         self.words = 16;
-        let mut times = (0.0, 0.0);
+        let mut times = [0.0; 3];
+        let mut placed = Vec::new();
         for moment in 0..MOMENTS {
             for _ in 0..if moment == 0 { 1_024 } else { 32 } {
                 let key = key(&mut self.random);
                 self.place(key)?;
+                placed.push(key);
             }
             let live: Vec<Key> = self.pair.model.blocks.iter().map(|block| block.key).collect();
             let hits: Vec<Key> = (0..LOOKUPS).map(|_| self.random.pick(&live)).collect();
             let misses: Vec<Key> = (0..LOOKUPS).map(|_| key(&mut self.random)).collect();
-            times.0 += self.least(&hits) / MOMENTS as f64;
-            times.1 += self.least(&misses) / MOMENTS as f64;
+            let gone = placed.iter().copied().filter(|&key| self.pair.model.lookup(key).is_none());
+            let gone: Vec<Key> = gone.collect();
+            let dropped: Vec<Key> = (0..LOOKUPS).map(|_| self.random.pick(&gone)).collect();
+            for (time, keys) in times.iter_mut().zip([hits, misses, dropped]) {
+                *time += self.least(&keys) / MOMENTS as f64;
+            }
         }
         Ok(times)
     }

@@ -107,17 +107,21 @@ impl PlainIndex {
     /// Drops the block under the key, those that share a byte, and the oldest beyond 511.
     fn sweep(&mut self, key: Key, start: usize, end: usize) {
         let mut room = ENTRIES - 1;
-        for p in (1..=self.used).rev() {
-            let slot = &self.slots[p];
+        let mut evicted = |slot: &Slot| {
             if slot.length == 0 {
-                continue;
+                return false;
             }
             let overlaps = slot.start < end && start < slot.start + slot.length;
             if slot.key == key || overlaps || room == 0 {
-                self.drop_at(p);
-            } else {
-                room -= 1;
+                return true;
             }
+            room -= 1;
+            false
+        };
+        let mut last = self.used;
+        while let Some(before) = self.slots[1..=last].iter().rposition(&mut evicted) {
+            self.drop_at(before + 1);
+            last = before;
         }
     }
 
