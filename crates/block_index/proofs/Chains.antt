@@ -47,11 +47,13 @@ pub head-le : (b : ℕ) (es : List Entry) → head b es ≤ length es
 head-le b [] = omega arith
 head-le b (e ∷ es) =
     let h = head-le b es in
-    by-test (λ (t : Bool). cond t (suc (length es)) (head b es) ≤ suc (length es)) (linked b e) (λ q. omega arith) (λ q. omega arith)
+    by-test (λ (t : Bool). cond t (suc (length es)) (head b es) ≤ suc (length es)) (linked b e) (λ q. omega arith)
+    (λ q. omega arith)
 
 linked-is : (b : ℕ) (e : Entry) → linked b e ≡ true → (0 < e .length) × (bucket (e .space) (e .pc) ≡ b)
 linked-is b e =
-    by-eqb (λ (t : Bool). (not t && eqb (bucket (e .space) (e .pc)) b) ≡ true → (0 < e .length) × (bucket (e .space) (e .pc) ≡ b)) (e .length) 0
+    by-eqb (λ (t : Bool). (not t && eqb (bucket (e .space) (e .pc)) b) ≡ true
+    → (0 < e .length) × (bucket (e .space) (e .pc) ≡ b)) (e .length) 0
     (λ z q. absurd (true≢false (sym q))) (λ z q. (omega arith, eqb-true (bucket (e .space) (e .pc)) b q))
 
 linked-live : (b : ℕ) (e : Entry) → 0 < e .length → linked b e ≡ eqb (bucket (e .space) (e .pc)) b
@@ -73,7 +75,8 @@ pub empties : (m : List ℕ) → length m ≡ index-bytes → Lists (emptied m) 
 empties m l =
     record { long = emptied-within m l .long ∙ l; last = emptied-cell m l 2048 (omega arith); cells = λ b h. emptied-cell m l b (omega arith); rows = tt }
 
-pub pushing : (m : List ℕ) (es : List Entry) (e : Entry) → Lists m es → length es < 1023 → 0 < e .length → Fits e → Lists (pushed m e) (e ∷ es)
+pub pushing : (m : List ℕ) (es : List Entry) (e : Entry) → Lists m es → length es < 1023 → 0 < e .length → Fits e
+    → Lists (pushed m e) (e ∷ es)
 pushing m es e g h z f =
     let r = pushes m e (g .long) f in
     let p : fresh m ≡ suc (length es) = omega (arith, g .last) in
@@ -96,11 +99,13 @@ module _ (m : List ℕ) (b : ℕ) (x : Entry) (xs : List Entry) (r : Rows m (x �
   next-is q = let k = linked-is b x q in r .1 (k .0) ∙ ap (λ (c : ℕ). head c xs) (k .1)
 
   chain-step : (test : ℕ → Bool) → let w = walk m test (length xs) (head b xs) in
-      walk m test (suc (length xs)) (head b (x ∷ xs)) ≡ cond (linked b x) (cond (test (suc (length xs))) (suc (length xs)) w) w
+      walk m test (suc (length xs)) (head b (x ∷ xs))
+      ≡ cond (linked b x) (cond (test (suc (length xs))) (suc (length xs)) w) w
   chain-step test =
       let n = length xs in
       let w = walk m test n (head b xs) in
-      by-test (λ (t : Bool). walk m test (suc n) (cond t (suc n) (head b xs)) ≡ cond t (cond (test (suc n)) (suc n) w) w) (linked b x)
+      by-test (λ (t : Bool). walk m test (suc n) (cond t (suc n) (head b xs))
+      ≡ cond t (cond (test (suc n)) (suc n) w) w) (linked b x)
       (λ q. walk-here m test n ∙ rw (next-is q)) (λ q. walk-past m test n (head b xs) (head-le b xs))
 
 abbrev pub has : ℕ → ℕ → Entry → Bool
@@ -114,11 +119,13 @@ module _ (m : List ℕ) (space pc : ℕ) where
   other : (x : Entry) → linked (bucket space pc) x ≡ false → has space pc x ≡ false
   other x =
       let key = eqb (x .space) space && eqb (x .pc) pc in
-      by-eqb (λ (t : Bool). (not t && eqb (bucket (x .space) (x .pc)) (bucket space pc)) ≡ false → (not t && key) ≡ false) (x .length) 0
+      by-eqb (λ (t : Bool). (not t && eqb (bucket (x .space) (x .pc)) (bucket space pc)) ≡ false
+      → (not t && key) ≡ false) (x .length) 0
       (λ z h. refl)
       (λ z h. by-eqb (λ (t : Bool). (t && eqb (x .pc) pc) ≡ false) (x .space) space
       (λ q. by-eqb (λ (t : Bool). t ≡ false) (x .pc) pc
-      (λ r. absurd (true≢false (sym (eq-eqb (bucket (x .space) (x .pc)) (bucket space pc) (rw (q, r))) ∙ h))) (λ r. refl)) (λ q. refl))
+      (λ r. absurd (true≢false (sym (eq-eqb (bucket (x .space) (x .pc)) (bucket space pc) (rw (q, r))) ∙ h)))
+      (λ r. refl)) (λ q. refl))
 
   pub walk-step : (x : Entry) (xs : List Entry) → Rows m (x ∷ xs)
       → walk m test (suc (length xs)) (head (bucket space pc) (x ∷ xs))
@@ -127,14 +134,15 @@ module _ (m : List ℕ) (space pc : ℕ) where
       let n = length xs in
       let w = walk m test n (head (bucket space pc) xs) in
       chain-step m (bucket space pc) x xs r test
-      ∙ by-test (λ (t : Bool). cond t (cond (test (suc n)) (suc n) w) w ≡ cond (has space pc x) (suc n) w) (linked (bucket space pc) x)
+      ∙ by-test (λ (t : Bool). cond t (cond (test (suc n)) (suc n) w) w ≡ cond (has space pc x) (suc n) w)
+      (linked (bucket space pc) x)
       (λ q. ap (λ (y : Entry). cond (eqb (y .space) space && eqb (y .pc) pc) (suc n) w) (r .0)
       ∙ rw (ne-eqb (x .length) 0 (λ z. omega (arith, linked-is (bucket space pc) x q .0))))
       (λ q. rw (other x q))
 
 -- ---- a block dropped
 
--- the slot v leads to p, at or below slot k in the chain with this head; or the chain begins there, and v is none of its slots
+-- slot v leads to p in the chain with this head, at slot k or below; or p is the head, and v is above k
 abbrev Led : List ℕ → ℕ → ℕ → ℕ → ℕ → Type 0
 Led m p v k h = ((h ≡ p → ⊥) × (v ≡ walk m (λ q. eqb (next-at m q) p) k h)) ⊎ ((h ≡ p) × (k < v))
 
@@ -148,7 +156,8 @@ module _ (m : List ℕ) (p v k h : ℕ) where
   led-on l e (inl a) =
       let i = walk-le m before k h in
       by-eqb (λ (t : Bool). v ≡ cond t (suc k) (walk m before k h) → Led m p v k h × (eqb (suc k) v ≡ t)) h p
-      (λ q w. (inr (q, omega arith), eq-eqb (suc k) v (sym w))) (λ q w. (inl (q, w), ne-eqb (suc k) v (λ z. omega arith)))
+      (λ q w. (inr (q, omega arith), eq-eqb (suc k) v (sym w)))
+      (λ q w. (inl (q, w), ne-eqb (suc k) v (λ z. omega arith)))
       (a .1 ∙ walk-here m before k ∙ rw e)
 
   led-past : h ≤ k → Led m p v (suc k) h → Led m p v k h × (eqb (suc k) v ≡ false)
@@ -171,7 +180,7 @@ module _ (x : Entry) (xs : List Entry) (z : 0 < x .length) where
   abbrev without-x : List Entry → List Entry
   without-x ts = ts ++ (tomb x ∷ xs)
 
-  -- where what led to a slot leads then
+  -- where what led to a slot leads once x is dropped
   abbrev on : ℕ → ℕ
   on q = cond (eqb q p) (head b xs) q
 
@@ -190,10 +199,12 @@ module _ (x : Entry) (xs : List Entry) (z : 0 < x .length) where
   -- p is the head of no other chain
   head-at : (c : ℕ) (ts : List Entry) → head c (with-x ts) ≡ p → b ≡ c
   head-at c [] =
-      by-test (λ (t : Bool). cond t p (head c xs) ≡ p → b ≡ c) (linked c x) (λ q e. linked-is c x q .1) (λ q e. absurd (below c e))
+      by-test (λ (t : Bool). cond t p (head c xs) ≡ p → b ≡ c) (linked c x) (λ q e. linked-is c x q .1)
+      (λ q e. absurd (below c e))
   head-at c (t ∷ ts) =
       let i = head-at c ts in
-      by-test (λ (u : Bool). cond u (suc (length (with-x ts))) (head c (with-x ts)) ≡ p → b ≡ c) (linked c t) (λ q e. absurd (above ts e)) (λ q e. i e)
+      by-test (λ (u : Bool). cond u (suc (length (with-x ts))) (head c (with-x ts)) ≡ p → b ≡ c) (linked c t)
+      (λ q e. absurd (above ts e)) (λ q e. i e)
 
   head-self : head b (x ∷ xs) ≡ p
   head-self = rw (linked-live b x z, eq-eqb b b refl)
@@ -206,27 +217,36 @@ module _ (x : Entry) (xs : List Entry) (z : 0 < x .length) where
       let i = head-on c ts in
       let n = length (with-x ts) in
       rw (same-long ts)
-      (by-test (λ (u : Bool). cond u (suc n) (head c (without-x ts)) ≡ on (cond u (suc n) (head c (with-x ts)))) (linked c t)
+      (by-test (λ (u : Bool). cond u (suc n) (head c (without-x ts)) ≡ on (cond u (suc n) (head c (with-x ts))))
+      (linked c t)
       (λ q. rw (ne-eqb (suc n) p (above ts))) (λ q. i))
 
   module _ (m m′ : List ℕ) (c v : ℕ) (d : Drops m p c v m′) (n : next-at m p ≡ head b xs) where
     -- what the slot of an entry led to, and whether that is p
-    row-led : (t : Entry) (ts : List Entry) → Rows m (t ∷ with-x ts) → Led m p v (suc (length (with-x ts))) (head b (t ∷ with-x ts))
+    row-led : (t : Entry) (ts : List Entry) → Rows m (t ∷ with-x ts)
+        → Led m p v (suc (length (with-x ts))) (head b (t ∷ with-x ts))
         → Led m p v (length (with-x ts)) (head b (with-x ts))
         × (0 < t .length → eqb (suc (length (with-x ts))) v ≡ eqb (head (bucket (t .space) (t .pc)) (with-x ts)) p)
     row-led t ts r =
         let n = length (with-x ts) in
         let h = head b (with-x ts) in
         let g = head (bucket (t .space) (t .pc)) (with-x ts) in
-        by-test (λ (u : Bool). Led m p v (suc n) (cond u (suc n) h) → Led m p v n h × (0 < t .length → eqb (suc n) v ≡ eqb g p)) (linked b t)
+        by-test (λ (u : Bool). Led m p v (suc n) (cond u (suc n) h)
+        → Led m p v n h × (0 < t .length → eqb (suc n) v ≡ eqb g p)) (linked b t)
         (λ q l.
         let k = led-on m p v n h (omega (arith, long ts)) (next-is m b t (with-x ts) r q) l in
         (k .0, λ y. k .1 ∙ rw (linked-is b t q .1)))
         (λ q l.
-        let k = led-past m p v n h (head-le b (with-x ts)) l in
-        (k .0, λ y. k .1 ∙ sym (ne-eqb g p (λ e. true≢false (sym (linked-live b t y ∙ eq-eqb (bucket (t .space) (t .pc)) b (sym (head-at (bucket (t .space) (t .pc)) ts e))) ∙ q)))))
+        let k = led-past m p v n h (head-le b (with-x ts)) l in (
+          k .0,
+          λ y. k .1 ∙ sym
+              (ne-eqb g p (λ e. true≢false
+              (sym (linked-live b t y ∙ eq-eqb (bucket (t .space) (t .pc)) b
+              (sym (head-at (bucket (t .space) (t .pc)) ts e))) ∙ q))),
+        ))
 
-    rows-on : (ts : List Entry) → length (with-x ts) ≤ 1023 → Rows m (with-x ts) → Led m p v (length (with-x ts)) (head b (with-x ts)) → Rows m′ (without-x ts)
+    rows-on : (ts : List Entry) → length (with-x ts) ≤ 1023 → Rows m (with-x ts)
+        → Led m p v (length (with-x ts)) (head b (with-x ts)) → Rows m′ (without-x ts)
     rows-on [] h r (inl a) = absurd (a .0 head-self)
     rows-on [] h r (inr a) = (
       d .entry ∙ ap tomb (r .0),
@@ -253,8 +273,7 @@ module _ (x : Entry) (xs : List Entry) (z : 0 < x .length) where
         record {
           long = d .long;
           last = d .cells 2048 (omega arith) ∙ rw u (g .last ∙ sym (same-long ts));
-          cells = λ a i.
-              d .cells a (omega arith) ∙ rw (e a i, n, g .cells a i) (sym (head-on a ts));
+          cells = λ a i. d .cells a (omega arith) ∙ rw (e a i, n, g .cells a i) (sym (head-on a ts));
           rows = rows-on ts h (g .rows) l;
         }
 
@@ -265,16 +284,20 @@ module _ (x : Entry) (xs : List Entry) (z : 0 < x .length) where
       let f = head b (with-x ts) in
       let i : k ≤ 1023 = omega (arith, g .last) in
       let j : p ≤ 1023 = omega (arith, long ts) in
-      let s : bucket (entry-at m p .space) (entry-at m p .pc) ≡ b = ap (λ (y : Entry). bucket (y .space) (y .pc)) (r .0) in
-      let c : cell m (bucket (entry-at m p .space) (entry-at m p .pc)) ≡ f = rw s (g .cells b (bucket-lt (x .space) (x .pc))) in
+      let s : bucket (entry-at m p .space) (entry-at m p .pc) ≡ b =
+      ap (λ (y : Entry). bucket (y .space) (y .pc)) (r .0) in
+      let c : cell m (bucket (entry-at m p .space) (entry-at m p .pc)) ≡ f =
+      rw s (g .cells b (bucket-lt (x .space) (x .pc))) in
       let w : ℕ → ℕ = λ q. walk m (λ o. eqb (next-at m o) p) q f in
       let u : 1023 ≡ 1023 - k + k = omega arith in
       let led : previous m (cell m (bucket (entry-at m p .space) (entry-at m p .pc))) p ≡ w k =
-      ap (λ (q : ℕ). previous m q p) c ∙ ap w u ∙ walk-up m (λ o. eqb (next-at m o) p) (1023 - k) k f (head-le b (with-x ts)) in
+      ap (λ (q : ℕ). previous m q p) c ∙ ap w u ∙ walk-up m (λ o. eqb (next-at m o) p) (1023 - k) k f
+      (head-le b (with-x ts)) in
       by-eqb (λ (t : Bool). Lists (dropped m p) (without-x ts)) f p
       (λ e.
       relinked m (dropped m p) b 1024 (rw s at (drops-head m (g .long) p j (c ∙ e))) (r .1 z) ts g i
-      (λ a q. by-eqb (λ (t : Bool). t ≡ eqb (head a (with-x ts)) p) a b (λ o. sym (eq-eqb (head a (with-x ts)) p (rw o e)))
+      (λ a q. by-eqb (λ (t : Bool). t ≡ eqb (head a (with-x ts)) p) a b
+      (λ o. sym (eq-eqb (head a (with-x ts)) p (rw o e)))
       (λ o. sym (ne-eqb (head a (with-x ts)) p (λ y. o (sym (head-at a ts y))))))
       (ne-eqb 2048 b (λ o. omega (arith, bucket-lt (x .space) (x .pc)))) (inr (e, omega arith)))
       (λ e.
@@ -289,14 +312,17 @@ module _ (x : Entry) (xs : List Entry) (z : 0 < x .length) where
 abbrev evicted : Entry → ℕ → Entry → Bool
 evicted e room x =
     eqb room 0
-    || (eqb (x .space) (e .space) && eqb (x .pc) (e .pc) || ltb (x .start) (e .start + e .length) && ltb (e .start) (x .start + x .length))
+    || (eqb (x .space) (e .space) && eqb (x .pc) (e .pc)
+    || ltb (x .start) (e .start + e .length) && ltb (e .start) (x .start + x .length))
 
 abbrev pub sweep : Entry → ℕ → List Entry → List Entry
 sweep e room [] = []
 sweep e room (x ∷ xs) =
-    cond (eqb (x .length) 0) (x ∷ sweep e room xs) (cond (evicted e room x) (tomb x ∷ sweep e room xs) (x ∷ sweep e (room - 1) xs))
+    cond (eqb (x .length) 0) (x ∷ sweep e room xs)
+    (cond (evicted e room x) (tomb x ∷ sweep e room xs) (x ∷ sweep e (room - 1) xs))
 
-sweeps : (m : List ℕ) (e : Entry) (room : ℕ) (ts es : List Entry) → Lists m (ts ++ es) → Lists (swept m e room (length es)) (ts ++ sweep e room es)
+sweeps : (m : List ℕ) (e : Entry) (room : ℕ) (ts es : List Entry) → Lists m (ts ++ es)
+    → Lists (swept m e room (length es)) (ts ++ sweep e room es)
 unfolding swept
 sweeps m e room ts [] g = g
 sweeps m e room ts (x ∷ xs) g =
@@ -305,12 +331,16 @@ sweeps m e room ts (x ∷ xs) g =
     swept (cond a m (cond b (dropped m p) m)) e (cond a room (cond b room (room - 1))) (length xs) in
     let here : swept m e room p ≡ next (eqb (x .length) 0) (evicted e room x) =
     ap (λ (y : Entry). next (eqb (y .length) 0) (evicted e room y)) (rows-at m ts (x ∷ xs) (g .rows) .0) in
-    let again : (n : List ℕ) (k : ℕ) (y : Entry) → Lists n (ts ++ (y ∷ xs)) → Lists (swept n e k (length xs)) (ts ++ (y ∷ sweep e k xs)) = λ n k y f.
+    let again : (n : List ℕ) (k : ℕ) (y : Entry) → Lists n (ts ++ (y ∷ xs))
+    → Lists (swept n e k (length xs)) (ts ++ (y ∷ sweep e k xs)) = λ n k y f.
     rw (append-snoc ts y (sweep e k xs)) at (sweeps n e k (ts ++ (y ∷ [])) xs (rw (append-snoc ts y xs) f)) in
     subst⁻¹ (λ (n : List ℕ). Lists n (ts ++ sweep e room (x ∷ xs))) here
-    (by-eqb (λ (a : Bool). Lists (next a (evicted e room x)) (ts ++ cond a (x ∷ sweep e room xs) (cond (evicted e room x) (tomb x ∷ sweep e room xs) (x ∷ sweep e (room - 1) xs))))
+    (by-eqb (λ (a : Bool). Lists (next a (evicted e room x))
+    (ts ++ cond a (x ∷ sweep e room xs)
+    (cond (evicted e room x) (tomb x ∷ sweep e room xs) (x ∷ sweep e (room - 1) xs))))
     (x .length) 0 (λ q. again m room x g)
-    (λ q. by-test (λ (b : Bool). Lists (next false b) (ts ++ cond b (tomb x ∷ sweep e room xs) (x ∷ sweep e (room - 1) xs))) (evicted e room x)
+    (λ q. by-test (λ (b : Bool). Lists (next false b)
+    (ts ++ cond b (tomb x ∷ sweep e room xs) (x ∷ sweep e (room - 1) xs))) (evicted e room x)
     (λ o. again (dropped m p) room (tomb x) (dropping x xs (omega arith) m ts g)) (λ o. again m (room - 1) x g)))
 
 pub sweeping : (m : List ℕ) (e : Entry) (room : ℕ) (es : List Entry) → Lists m es → Lists (swept m e room (used m)) (sweep e room es)
@@ -321,7 +351,8 @@ sweeping m e room es g = rw (g .last) (sweeps m e room [] es g)
 reinserted-more : (m : List ℕ) (k p : ℕ) → reinserted m (suc k) p ≡ reinserted-at (reinserted m k p) (p + k)
 unfolding reinserted
 reinserted-more m zero p = rw (add-zero p)
-reinserted-more m (suc k) p = let e : p + 1 + k ≡ p + suc k = omega arith in rw (← e) (reinserted-more (reinserted-at m p) k (p + 1))
+reinserted-more m (suc k) p = let e : p + 1 + k ≡ p + suc k =
+    omega arith in rw (← e) (reinserted-more (reinserted-at m p) k (p + 1))
 
 -- the log, with the slots after the first k as they were
 pub record Reinserts (m m′ : List ℕ) (k : ℕ) (es : List Entry) : Type 0 where
@@ -329,12 +360,18 @@ pub record Reinserts (m m′ : List ℕ) (k : ℕ) (es : List Entry) : Type 0 wh
   pub above : (q : ℕ) → k < q → q ≤ 1023 → Same m m′ q
 
 pub reinserted-from : (m : List ℕ) → length m ≡ index-bytes → Reinserts m (emptied m) 0 []
-reinserted-from m l = record { lists = empties m l; above = λ q a b. same-within m (emptied m) 0 4098 l (emptied-within m l) q b (inr (omega arith)) }
+reinserted-from m l =
+    record {
+      lists = empties m l;
+      above = λ q a b. same-within m (emptied m) 0 4098 l (emptied-within m l) q b
+          (inr (omega arith));
+    }
 
 -- one slot more, without a block or with one
 module _ (m n : List ℕ) (x : Entry) (xs es : List Entry) (r : Rows m (x ∷ xs)) (i : length xs < 1023)
     (s : Reinserts m (reinserted n (length xs) 1) (length xs) es) where
-  reinserted-next : reinserted n (suc (length xs)) 1 ≡ cond (eqb (x .length) 0) (reinserted n (length xs) 1) (pushed (reinserted n (length xs) 1) x)
+  reinserted-next : reinserted n (suc (length xs)) 1 ≡ cond (eqb (x .length) 0) (reinserted n (length xs) 1)
+      (pushed (reinserted n (length xs) 1) x)
   reinserted-next =
       reinserted-more n (length xs) 1
       ∙ rw (one-add (length xs))
@@ -343,13 +380,16 @@ module _ (m n : List ℕ) (x : Entry) (xs es : List Entry) (r : Rows m (x ∷ xs
 
   pub reinsert-none : x .length ≡ 0 → Reinserts m (reinserted n (suc (length xs)) 1) (suc (length xs)) es
   reinsert-none z =
-      rw (reinserted-next, eq-eqb (x .length) 0 z) record { lists = s .lists; above = λ q a b. s .above q (omega arith) b }
+      rw (reinserted-next, eq-eqb (x .length) 0 z) record
+      { lists = s .lists; above = λ q a b. s .above q (omega arith) b }
 
-  pub reinsert-one : 0 < x .length → length es ≤ length xs → Fits x → Reinserts m (reinserted n (suc (length xs)) 1) (suc (length xs)) (x ∷ es)
+  pub reinsert-one : 0 < x .length → length es ≤ length xs → Fits x
+      → Reinserts m (reinserted n (suc (length xs)) 1) (suc (length xs)) (x ∷ es)
   reinsert-one z h f =
       rw (reinserted-next, ne-eqb (x .length) 0 (λ e. omega arith)) record {
         lists = pushing (reinserted n (length xs) 1) es x (s .lists) (omega arith) z f;
         above = λ q a b.
             both (s .above q (omega arith) b)
-            (pushes (reinserted n (length xs) 1) x (s .lists .long) f .slots q (omega arith) b (inr (omega (arith, s .lists .last))));
+            (pushes (reinserted n (length xs) 1) x (s .lists .long) f .slots q (omega arith) b
+            (inr (omega (arith, s .lists .last))));
       }

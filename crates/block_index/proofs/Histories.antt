@@ -39,7 +39,8 @@ kept : (size : ℕ) (store : List ℕ) (b : Block) → length store ≡ size →
     → (c : Block) → overlap b c ≡ false → Fine size store c → Fine size (splice store (b .start) (b .code)) c
 kept size store b l h c o f =
     let n = length (c .code) in
-    let There : Type 0 = take n (drop (c .start) (splice store (b .start) (b .code))) ≡ take n (drop (c .start) store) in
+    let There : Type 0 = take n (drop (c .start) (splice store (b .start) (b .code)))
+    ≡ take n (drop (c .start) store) in
     let there : There =
     by-ltb (λ (t : Bool). (t && ltb (b .start) (end c)) ≡ false → There) (c .start) (end b)
     (λ p. by-ltb (λ (t : Bool). t ≡ false → There) (b .start) (end c) (λ q e. absurd (true≢false e))
@@ -55,9 +56,11 @@ without-le test (b ∷ bs) =
     let h = without-le test bs in
     by-test (λ (t : Bool). length (cond t (without test bs) (b ∷ without test bs)) ≤ suc (length bs)) (test b) (λ q. omega arith) (λ q. omega arith)
 
-roomy : (entries : ℕ) (bs : List Block) → 1 ≤ entries → length bs ≤ entries → with-room entries bs ≡ take (entries - 1) bs
+roomy : (entries : ℕ) (bs : List Block) → 1 ≤ entries → length bs ≤ entries
+    → with-room entries bs ≡ take (entries - 1) bs
 roomy entries bs z h =
-    by-ltb (λ (t : Bool). cond t bs (take (length bs - 1) bs) ≡ take (entries - 1) bs) (length bs) entries (λ l. sym (take-all (entries - 1) bs (omega arith)))
+    by-ltb (λ (t : Bool). cond t bs (take (length bs - 1) bs) ≡ take (entries - 1) bs) (length bs) entries
+    (λ l. sym (take-all (entries - 1) bs (omega arith)))
     (λ l. let e : length bs - 1 ≡ entries - 1 = omega arith in rw e)
 
 -- ---- what holds after each call
@@ -77,26 +80,31 @@ pub record Good (entries size : ℕ) (m store : List ℕ) (bs : List Block) : Ty
   pub small : size < 2 ^ 64
 
 -- the last block's end
-ends : {size : ℕ} {store : List ℕ} {es : List Entry} {bs : List Block} (m : List ℕ) (bound : ℕ) → Model.last-end bs ≤ bound → Views size store es bs → Top es → Lists m es
+ends : {size : ℕ} {store : List ℕ} {es : List Entry} {bs : List Block} (m : List ℕ) (bound : ℕ)
+    → Model.last-end bs ≤ bound → Views size store es bs → Top es → Lists m es
     → last-end m bound ≡ Model.last-end bs
 ends m bound h none t g = rw (g .last)
 ends m bound h (dead z v) t g = absurd (omega arith)
 ends m bound h (live {xs = xs} {b = b} f v) t g =
     rw (g .last, ne-eqb (suc (length xs)) 0 (λ e. omega arith))
-    (ap (λ (e : Entry). cond (ltb bound (e .start + e .length)) 0 (e .start + e .length)) (g .rows .0) ∙ rw (le-ltb bound (end b) h))
+    (ap (λ (e : Entry). cond (ltb bound (e .start + e .length)) 0 (e .start + e .length)) (g .rows .0)
+    ∙ rw (le-ltb bound (end b) h))
 
-pub last-is : {entries size : ℕ} {m store : List ℕ} {bs : List Block} (bound : ℕ) → Model.last-end bs ≤ bound → Good entries size m store bs
+pub last-is : {entries size : ℕ} {m store : List ℕ} {bs : List Block} (bound : ℕ) → Model.last-end bs ≤ bound
+    → Good entries size m store bs
     → last-end m bound ≡ Model.last-end bs
 last-is {m = m} bound h g = ends m bound h (g .views) (g .top) (g .lists)
 
-last-le : {size : ℕ} {store : List ℕ} {es : List Entry} {bs : List Block} → Views size store es bs → Top es → Model.last-end bs ≤ size
+last-le : {size : ℕ} {store : List ℕ} {es : List Entry} {bs : List Block} → Views size store es bs → Top es
+    → Model.last-end bs ≤ size
 last-le none t = omega arith
 last-le (dead z v) t = absurd (omega arith)
 last-le (live f v) t = f .inside
 
 fitting : (size : ℕ) (bs : List Block) (n : ℕ) → n ≤ size → Model.start size bs n + n ≤ size
 fitting size bs n h =
-    by-ltb (λ (t : Bool). cond t 0 (Model.last-end bs) + n ≤ size) size (Model.last-end bs + n) (λ l. omega arith) (λ l. l)
+    by-ltb (λ (t : Bool). cond t 0 (Model.last-end bs) + n ≤ size) size (Model.last-end bs + n) (λ l. omega arith)
+    (λ l. l)
 
 -- a log with room for one slot more
 abbrev Roomy : ℕ → List ℕ → List ℕ → List Block → Type 0
@@ -106,7 +114,13 @@ compacts : (size : ℕ) (m store : List ℕ) (es : List Entry) (bs : List Block)
     → Roomy size (compacted m) store bs
 compacts size m store es bs h k g v =
     by-eqb (λ (t : Bool). Roomy size (cond t (Index.reinserted (emptied m) (used m) 1) m) store bs) (used m) 1023
-    (λ q. (map entry-of bs, rw (g .last) (reinserts m (emptied m) (reinserted-from m (g .long)) h v (g .rows) (omega (arith, g .last)) .lists), together v, rw (length-map bs entry-of) k))
+    (λ q. (
+      map entry-of bs,
+      rw (g .last)
+          (reinserts m (emptied m) (reinserted-from m (g .long)) h v (g .rows) (omega (arith, g .last)) .lists),
+      together v,
+      rw (length-map bs entry-of) k,
+    ))
     (λ q. (es, g, v, omega (arith, g .last)))
 
 -- ---- placing
@@ -122,23 +136,37 @@ unfolding Index.place
 place-is m store space pc count code = refl
 
 -- an entry more, wherever it starts
-module _ {entries size : ℕ} {m store : List ℕ} {bs : List Block} (some : (1 ≤ entries) × (entries ≤ 1023)) (g : Good entries size m store bs) (new : Block)
+module _ {entries size : ℕ} {m store : List ℕ} {bs : List Block} (some : (1 ≤ entries) × (entries ≤ 1023))
+    (g : Good entries size m store bs) (new : Block)
     (fit : (new .space < 2 ^ 64) × (new .pc < 2 ^ 64) × (new .count < 2 ^ 8)) where
   pub inserting : 0 < length (new .code) → end new ≤ size
-      → Good entries size (Index.placed entries m (entry-of new)) (splice store (new .start) (new .code)) (Model.placed entries bs new)
+      → Good entries size (Index.placed entries m (entry-of new)) (splice store (new .start) (new .code))
+      (Model.placed entries bs new)
   inserting a f =
       let store′ = splice store (new .start) (new .code) in
       let key = Model.has-key (new .space) (new .pc) in
       let kept-bs = without (overlap new) (without key bs) in
-      let n : length kept-bs ≤ entries = omega (arith, without-le (overlap new) (without key bs), without-le key bs, g .few) in
+      let n : length kept-bs ≤ entries =
+      omega (arith, without-le (overlap new) (without key bs), without-le key bs, g .few) in
       let fine : Fine size store′ new =
-      record { space = fit .0; pc = fit .1; count = fit .2; some = a; inside = f; holds = splice-there store (new .start) (new .code) (rw (g .long) f) } in
-      let v : Views size store′ (sweep (entry-of new) (entries - 1) (g .es)) (take (entries - 1) kept-bs) = stays new (kept size store new (g .long) f) (entries - 1) (g .views) in
-      let c = compacts size (Index.swept m (entry-of new) (entries - 1) (used m)) store′ (sweep (entry-of new) (entries - 1) (g .es)) (take (entries - 1) kept-bs) (g .small)
-      (rw (length-take (entries - 1) kept-bs) (omega arith)) (sweeping m (entry-of new) (entries - 1) (g .es) (g .lists)) v in
+      record {
+        space = fit .0;
+        pc = fit .1;
+        count = fit .2;
+        some = a;
+        inside = f;
+        holds = splice-there store (new .start) (new .code) (rw (g .long) f);
+      } in
+      let v : Views size store′ (sweep (entry-of new) (entries - 1) (g .es)) (take (entries - 1) kept-bs) =
+      stays new (kept size store new (g .long) f) (entries - 1) (g .views) in
+      let c = compacts size (Index.swept m (entry-of new) (entries - 1) (used m)) store′
+      (sweep (entry-of new) (entries - 1) (g .es)) (take (entries - 1) kept-bs) (g .small)
+      (rw (length-take (entries - 1) kept-bs) (omega arith))
+      (sweeping m (entry-of new) (entries - 1) (g .es) (g .lists)) v in
       rw (roomy entries kept-bs (some .0) n) record {
         es = entry-of new ∷ c .0;
-        lists = pushing (compacted (Index.swept m (entry-of new) (entries - 1) (used m))) (c .0) (entry-of new) (c .1) (c .3) a (fits (g .small) fine);
+        lists = pushing (compacted (Index.swept m (entry-of new) (entries - 1) (used m))) (c .0) (entry-of new)
+            (c .1) (c .3) a (fits (g .small) fine);
         views = live fine (c .2);
         top = a;
         few = rw (length-take (entries - 1) kept-bs) (omega arith);
@@ -147,13 +175,16 @@ module _ {entries size : ℕ} {m store : List ℕ} {bs : List Block} (some : (1 
       }
 
 -- a store changed where no block is, as by another hart
-pub elsewhere : {size : ℕ} {store : List ℕ} {es : List Entry} {bs : List Block} (b : Block) → length store ≡ size → end b ≤ size
+pub elsewhere : {size : ℕ} {store : List ℕ} {es : List Entry} {bs : List Block} (b : Block) → length store ≡ size
+    → end b ≤ size
     → All (λ c. overlap b c ≡ false) bs → Views size store es bs → Views size (splice store (b .start) (b .code)) es bs
 elsewhere b l h a none = none
 elsewhere b l h a (dead z v) = dead z (elsewhere b l h a v)
-elsewhere {size = size} {store = store} b l h a (live {b = c} f v) = live (kept size store b l h c (a .0) f) (elsewhere b l h (a .1) v)
+elsewhere {size = size} {store = store} b l h a (live {b = c} f v) =
+    live (kept size store b l h c (a .0) f) (elsewhere b l h (a .1) v)
 
-module _ {size : ℕ} {m store : List ℕ} {bs : List Block} (g : Good index-entries size m store bs) (space pc count : ℕ) (code : List ℕ)
+module _ {size : ℕ} {m store : List ℕ} {bs : List Block} (g : Good index-entries size m store bs)
+    (space pc count : ℕ) (code : List ℕ)
     (fit : (space < 2 ^ 64) × (pc < 2 ^ 64) × (count < 2 ^ 8)) where
   abbrev new : Block
   new = Model.block size bs space pc count code
@@ -162,7 +193,8 @@ module _ {size : ℕ} {m store : List ℕ} {bs : List Block} (g : Good index-ent
   start-is = rw (g .long, last-is size (last-le (g .views) (g .top)) g)
 
   placing : 0 < length code → length code ≤ size
-      → Good index-entries size (Index.placed index-entries m (entry-of new)) (splice store (new .start) code) (Model.placed index-entries bs new)
+      → Good index-entries size (Index.placed index-entries m (entry-of new)) (splice store (new .start) code)
+      (Model.placed index-entries bs new)
   placing a b = inserting (omega arith, omega arith) g new fit a (fitting size bs (length code) b)
 
   record Step (r : Result) (refused : Bool) : Type 0 where
@@ -174,14 +206,18 @@ module _ {size : ℕ} {m store : List ℕ} {bs : List Block} (g : Good index-ent
       let e : Model.refused (length store) (length code) ≡ Model.refused size (length code) = rw (g .long) in
       rw (place-is m store space pc count code, e)
       (by-test (λ (t : Bool). Step (outcome t m store space pc count code) t) (Model.refused size (length code)) (λ q. record { good = g; answer = refl })
-      (λ q. let a = accepted size (length code) q in rw start-is record { good = placing (a .0) (a .1); answer = refl }))
+      (λ q.
+      let a = accepted size (length code) q in
+      rw start-is record { good = placing (a .0) (a .1); answer = refl }))
 
 -- ---- histories
 
-pub blank : {entries size : ℕ} (m store : List ℕ) → length m ≡ index-bytes → length store ≡ size → size < 2 ^ 64 → Good entries size (emptied m) store []
+pub blank : {entries size : ℕ} (m store : List ℕ) → length m ≡ index-bytes → length store ≡ size → size < 2 ^ 64
+    → Good entries size (emptied m) store []
 blank m store l k h = record { es = []; lists = empties m l; views = none; top = tt; few = omega arith; long = k; small = h }
 
-call : (size : ℕ) (s : State) (bs : List Block) (c : Call) → History.Fits c → Good index-entries size (s .index) (s .store) bs
+call : (size : ℕ) (s : State) (bs : List Block) (c : Call) → History.Fits c
+    → Good index-entries size (s .index) (s .store) bs
     → Good index-entries size (after-call s c .index) (after-call s c .store) (blocks-call size bs c)
 call size s bs Call.empty f g = blank (s .index) (s .store) (g .lists .long) (g .long) (g .small)
 call size s bs (Call.place space pc count code) f g = step g space pc count code f .good
@@ -191,17 +227,21 @@ good : {size : ℕ} {s : State} {bs : List Block} → Reached size s bs → Good
 good (begun index store l k h) = blank index store l k h
 good (called {s = s} {bs = bs} r c f) = call _ s bs c f (good r)
 
-lookup-is : (m : List ℕ) (space pc k : ℕ) → k ≡ 1023 → Index.lookup m space pc ≡ Index.found-at m (walk m (Index.key-at m space pc) k (cell m (bucket space pc)))
+lookup-is : (m : List ℕ) (space pc k : ℕ) → k ≡ 1023
+    → Index.lookup m space pc ≡ Index.found-at m (walk m (Index.key-at m space pc) k (cell m (bucket space pc)))
 unfolding Index.lookup
-lookup-is m space pc k e = ap (λ (i : ℕ). Index.found-at m (walk m (Index.key-at m space pc) i (cell m (bucket space pc)))) (sym e)
+lookup-is m space pc k e =
+    ap (λ (i : ℕ). Index.found-at m (walk m (Index.key-at m space pc) i (cell m (bucket space pc)))) (sym e)
 
-pub looking : {entries size : ℕ} {m store : List ℕ} {bs : List Block} (space pc : ℕ) → Good entries size m store bs → Index.lookup m space pc ≡ Model.lookup bs space pc
+pub looking : {entries size : ℕ} {m store : List ℕ} {bs : List Block} (space pc : ℕ) → Good entries size m store bs
+    → Index.lookup m space pc ≡ Model.lookup bs space pc
 looking {m = m} space pc g =
     let n = length (g .es) in
     rw (
       lookup-is m space pc (1023 - n + n) (omega (arith, g .lists .last)),
       g .lists .cells (bucket space pc) (bucket-lt space pc),
-      walk-up m (Index.key-at m space pc) (1023 - n) n (head (bucket space pc) (g .es)) (head-le (bucket space pc) (g .es)),
+      walk-up m (Index.key-at m space pc) (1023 - n) n (head (bucket space pc) (g .es))
+          (head-le (bucket space pc) (g .es)),
     )
     (finds m space pc (g .views) (g .lists .rows))
 

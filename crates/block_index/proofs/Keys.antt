@@ -1,4 +1,4 @@
--- What holds of the model's blocks after any calls: no two have one key or share a byte, and each is aligned. Assumes nothing.
+-- The model's blocks after any calls: no two have one key or share a byte, and each is aligned. Assumes nothing.
 use mathlib.Core.Path.{_≡_, refl}
 use mathlib.Core.Bool.{Bool, false, cond}
 use mathlib.Core.List.{List, [], _∷_}
@@ -17,7 +17,8 @@ module _ (P : Block → Type 0) where
   pub all-without : (test : Block → Bool) (bs : List Block) → All P bs → All P (without test bs)
   all-without test [] a = tt
   all-without test (b ∷ bs) a =
-      by-test (λ (t : Bool). All P (cond t (without test bs) (b ∷ without test bs))) (test b) (λ q. all-without test bs (a .1)) (λ q. (a .0, all-without test bs (a .1)))
+      by-test (λ (t : Bool). All P (cond t (without test bs) (b ∷ without test bs))) (test b)
+      (λ q. all-without test bs (a .1)) (λ q. (a .0, all-without test bs (a .1)))
 
   all-take : (n : ℕ) (bs : List Block) → All P bs → All P (take n bs)
   all-take zero bs a = tt
@@ -26,18 +27,21 @@ module _ (P : Block → Type 0) where
 
   pub all-room : (entries : ℕ) (bs : List Block) → All P bs → All P (with-room entries bs)
   all-room entries bs a =
-      by-test (λ (t : Bool). All P (cond t bs (take (length bs - 1) bs))) (ltb (length bs) entries) (λ q. a) (λ q. all-take (length bs - 1) bs a)
+      by-test (λ (t : Bool). All P (cond t bs (take (length bs - 1) bs))) (ltb (length bs) entries) (λ q. a)
+      (λ q. all-take (length bs - 1) bs a)
 
 none-left : (test : Block → Bool) (bs : List Block) → All (λ c. test c ≡ false) (without test bs)
 none-left test [] = tt
 none-left test (b ∷ bs) =
-    by-test (λ (t : Bool). test b ≡ t → All (λ c. test c ≡ false) (cond t (without test bs) (b ∷ without test bs))) (test b) (λ p q. none-left test bs) (λ p q. (q, none-left test bs)) refl
+    by-test (λ (t : Bool). test b ≡ t → All (λ c. test c ≡ false) (cond t (without test bs) (b ∷ without test bs)))
+    (test b) (λ p q. none-left test bs) (λ p q. (q, none-left test bs)) refl
 
 module _ (r : Block → Block → Bool) where
   pair-without : (test : Block → Bool) (bs : List Block) → Never r bs → Never r (without test bs)
   pair-without test [] a = tt
   pair-without test (b ∷ bs) a =
-      by-test (λ (t : Bool). Never r (cond t (without test bs) (b ∷ without test bs))) (test b) (λ q. pair-without test bs (a .1))
+      by-test (λ (t : Bool). Never r (cond t (without test bs) (b ∷ without test bs))) (test b)
+      (λ q. pair-without test bs (a .1))
       (λ q. (all-without (λ c. r b c ≡ false) test bs (a .0), pair-without test bs (a .1)))
 
   pair-take : (n : ℕ) (bs : List Block) → Never r bs → Never r (take n bs)
@@ -47,20 +51,24 @@ module _ (r : Block → Block → Bool) where
 
   pair-room : (entries : ℕ) (bs : List Block) → Never r bs → Never r (with-room entries bs)
   pair-room entries bs a =
-      by-test (λ (t : Bool). Never r (cond t bs (take (length bs - 1) bs))) (ltb (length bs) entries) (λ q. a) (λ q. pair-take (length bs - 1) bs a)
+      by-test (λ (t : Bool). Never r (cond t bs (take (length bs - 1) bs))) (ltb (length bs) entries) (λ q. a)
+      (λ q. pair-take (length bs - 1) bs a)
 
 keys-placed : (entries : ℕ) (bs : List Block) (b : Block) → Never same-key bs → Never same-key (placed entries bs b)
 keys-placed entries bs b a =
     let kept = without (overlap b) (without (same-key b) bs) in (
-      all-room (λ c. same-key b c ≡ false) entries kept (all-without (λ c. same-key b c ≡ false) (overlap b) (without (same-key b) bs) (none-left (same-key b) bs)),
-      pair-room same-key entries kept (pair-without same-key (overlap b) (without (same-key b) bs) (pair-without same-key (same-key b) bs a)),
+      all-room (λ c. same-key b c ≡ false) entries kept
+          (all-without (λ c. same-key b c ≡ false) (overlap b) (without (same-key b) bs) (none-left (same-key b) bs)),
+      pair-room same-key entries kept
+          (pair-without same-key (overlap b) (without (same-key b) bs) (pair-without same-key (same-key b) bs a)),
     )
 
 bytes-placed : (entries : ℕ) (bs : List Block) (b : Block) → Never overlap bs → Never overlap (placed entries bs b)
 bytes-placed entries bs b a =
     let kept = without (overlap b) (without (same-key b) bs) in (
       all-room (λ c. overlap b c ≡ false) entries kept (none-left (overlap b) (without (same-key b) bs)),
-      pair-room overlap entries kept (pair-without overlap (overlap b) (without (same-key b) bs) (pair-without overlap (same-key b) bs a)),
+      pair-room overlap entries kept
+          (pair-without overlap (overlap b) (without (same-key b) bs) (pair-without overlap (same-key b) bs a)),
     )
 
 -- ---- starts and lengths
@@ -71,7 +79,8 @@ last-aligned (b ∷ bs) a = omega arith
 
 start-aligned : (size : ℕ) (bs : List Block) (n : ℕ) → All Aligned bs → start size bs n % 4 ≡ 0
 start-aligned size bs n a =
-    by-test (λ (t : Bool). cond t 0 (last-end bs) % 4 ≡ 0) (ltb size (last-end bs + n)) (λ q. refl) (λ q. last-aligned bs a)
+    by-test (λ (t : Bool). cond t 0 (last-end bs) % 4 ≡ 0) (ltb size (last-end bs + n)) (λ q. refl)
+    (λ q. last-aligned bs a)
 
 -- ---- after any calls
 
@@ -86,15 +95,21 @@ distinct-placed bs b w d =
     record {
       keys = keys-placed index-entries bs b (d .keys);
       apart = bytes-placed index-entries bs b (d .apart);
-      aligned = (w, all-room Aligned index-entries (without (overlap b) rest) (all-without Aligned (overlap b) rest (all-without Aligned (same-key b) bs (d .aligned))));
+      aligned = (
+        w,
+        all-room Aligned index-entries (without (overlap b) rest)
+            (all-without Aligned (overlap b) rest (all-without Aligned (same-key b) bs (d .aligned))),
+      );
     }
 
 distinct-call : (size : ℕ) (bs : List Block) (c : Call) → Distinct bs → Distinct (blocks-call size bs c)
 distinct-call size bs Call.empty d = record { keys = tt; apart = tt; aligned = tt }
 distinct-call size bs (Call.place space pc count code) d =
     let new = block size bs space pc count code in
-    by-test (λ (t : Bool). refused size (length code) ≡ t → Distinct (cond t bs (placed index-entries bs new))) (refused size (length code)) (λ p q. d)
-    (λ p q. distinct-placed bs new (start-aligned size bs (length code) (d .aligned), accepted size (length code) q .2) d) refl
+    by-test (λ (t : Bool). refused size (length code) ≡ t → Distinct (cond t bs (placed index-entries bs new)))
+    (refused size (length code)) (λ p q. d)
+    (λ p q. distinct-placed bs new
+    (start-aligned size bs (length code) (d .aligned), accepted size (length code) q .2) d) refl
 distinct-call size bs (Call.lookup space pc) d = d
 
 pub distinct : {size : ℕ} {s : State} {bs : List Block} → Reached size s bs → Distinct bs

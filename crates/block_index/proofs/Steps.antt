@@ -40,7 +40,8 @@ Allowed size n = (0 < n) × (n ≤ size) × (n % 4 ≡ 0)
 
 pub accepted : (size n : ℕ) → Model.refused size n ≡ false → Allowed size n
 accepted size n =
-    by-eqb (λ (t : Bool). (t || (not (eqb (n % 4) 0) || ltb size n)) ≡ false → Allowed size n) n 0 (λ z e. absurd (true≢false e))
+    by-eqb (λ (t : Bool). (t || (not (eqb (n % 4) 0) || ltb size n)) ≡ false → Allowed size n) n 0
+    (λ z e. absurd (true≢false e))
     (λ z. by-eqb (λ (t : Bool). (not t || ltb size n) ≡ false → Allowed size n) (n % 4) 0
     (λ d e. (omega arith, ltb-false size n e, d)) (λ d e. absurd (true≢false e)))
 
@@ -86,7 +87,8 @@ swept-step m e room (suc k) h = let z : suc k - 1 ≡ k = omega arith in rw z
 
 -- ---- the reinserting
 
-pub reinserted-step : (m : List ℕ) (n p : ℕ) → p ≤ n → reinserted m (n + 1 - p) p ≡ reinserted (reinserted-at m p) (n + 1 - (p + 1)) (p + 1)
+pub reinserted-step : (m : List ℕ) (n p : ℕ) → p ≤ n → reinserted m (n + 1 - p) p ≡ reinserted (reinserted-at m p)
+    (n + 1 - (p + 1)) (p + 1)
 unfolding reinserted
 reinserted-step m n p h =
     let a : n + 1 - p ≡ suc (n - p) = omega arith in

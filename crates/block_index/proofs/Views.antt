@@ -46,7 +46,8 @@ having [] = []
 having (x ∷ xs) = cond (eqb (x .length) 0) (having xs) (x ∷ having xs)
 
 module _ {size : ℕ} {store : List ℕ} where
-  pub all-fine : (P : Block → Type 0) → ((b : Block) → Fine size store b → P b) → {es : List Entry} {bs : List Block} → Views size store es bs → All P bs
+  pub all-fine : (P : Block → Type 0) → ((b : Block) → Fine size store b → P b) → {es : List Entry} {bs : List Block}
+      → Views size store es bs → All P bs
   all-fine P p none = tt
   all-fine P p (dead z v) = all-fine P p v
   all-fine P p (live {b = b} f v) = (p b f, all-fine P p v)
@@ -65,7 +66,8 @@ module _ {size : ℕ} {store : List ℕ} where
   pub lives : {es : List Entry} {bs : List Block} → Views size store es bs → having es ≡ map entry-of bs
   lives none = refl
   lives (dead {x = x} z v) = rw (eq-eqb (x .length) 0 z) (lives v)
-  lives (live {b = b} f v) = rw (ne-eqb (length (b .code)) 0 (λ e. omega (arith, f .some))) (ap (λ (xs : List Entry). entry-of b ∷ xs) (lives v))
+  lives (live {b = b} f v) = rw (ne-eqb (length (b .code)) 0 (λ e. omega (arith, f .some)))
+      (ap (λ (xs : List Entry). entry-of b ∷ xs) (lives v))
 
   -- ---- lookup
 
@@ -77,7 +79,9 @@ module _ {size : ℕ} {store : List ℕ} where
       rw (walk-step m space pc x xs r, eq-eqb (x .length) 0 z) (finds m space pc v (r .2))
   finds m space pc (live {xs = xs} {b = b} {bs = bs} f v) r =
       rw (walk-step m space pc (entry-of b) xs r, ne-eqb (length (b .code)) 0 (λ e. omega (arith, f .some)))
-      (by-test (λ (t : Bool). found-at m (cond t (suc (length xs)) (walk m (key-at m space pc) (length xs) (head (bucket space pc) xs))) ≡ cond t (Model.found b) (Model.lookup bs space pc))
+      (by-test (λ (t : Bool). found-at m
+      (cond t (suc (length xs)) (walk m (key-at m space pc) (length xs) (head (bucket space pc) xs)))
+      ≡ cond t (Model.found b) (Model.lookup bs space pc))
       (Model.has-key space pc b) (λ q. found-at-is m (length xs) b (r .0)) (λ q. finds m space pc v (r .2)))
 
   -- ---- the reinserting
@@ -85,13 +89,15 @@ module _ {size : ℕ} {store : List ℕ} where
   pub fits : {b : Block} → size < 2 ^ 64 → Fine size store b → Fits (entry-of b)
   fits {b} h f = omega arith
 
-  pub reinserts : (m n : List ℕ) {es : List Entry} {bs : List Block} → Reinserts m n 0 [] → size < 2 ^ 64 → Views size store es bs
+  pub reinserts : (m n : List ℕ) {es : List Entry} {bs : List Block} → Reinserts m n 0 [] → size < 2 ^ 64
+      → Views size store es bs
       → Rows m es → length es ≤ 1023 → Reinserts m (reinserted n (length es) 1) (length es) (map entry-of bs)
   reinserts m n g h none r i = unfold reinserted in g
   reinserts m n g h (dead {x = x} {xs = xs} {bs = bs} z v) r i =
       reinsert-none m n x xs (map entry-of bs) r i (reinserts m n g h v (r .2) (omega arith)) z
   reinserts m n g h (live {xs = xs} {b = b} {bs = bs} f v) r i =
-      reinsert-one m n (entry-of b) xs (map entry-of bs) r i (reinserts m n g h v (r .2) (omega arith)) (f .some) (rw (length-map bs entry-of) (fewer v)) (fits h f)
+      reinsert-one m n (entry-of b) xs (map entry-of bs) r i (reinserts m n g h v (r .2) (omega arith)) (f .some)
+      (rw (length-map bs entry-of) (fewer v)) (fits h f)
 
 -- ---- the sweep
 
@@ -104,11 +110,13 @@ module _ {size : ℕ} {store store′ : List ℕ} (b : Block) (keeps : (c : Bloc
         → ((room : ℕ) → Views size store′ (sweep (entry-of b) room xs) (take room (stay bs)))
         → (key over : Bool) (room : ℕ) → overlap b c ≡ over
         → Views size store′
-        (cond (eqb room 0 || (key || over)) (tomb (entry-of c) ∷ sweep (entry-of b) room xs) (entry-of c ∷ sweep (entry-of b) (room - 1) xs))
+        (cond (eqb room 0 || (key || over)) (tomb (entry-of c) ∷ sweep (entry-of b) room xs)
+        (entry-of c ∷ sweep (entry-of b) (room - 1) xs))
         (take room (without (overlap b) (cond key (without (Model.same-key b) bs) (c ∷ without (Model.same-key b) bs))))
     stays-live c bs f v key over zero q = dead refl (v zero)
     stays-live c bs f v true over (suc room) q = rw (ne-eqb (suc room) 0 (λ e. omega arith)) (dead refl (v (suc room)))
-    stays-live c bs f v false true (suc room) q = rw (q, ne-eqb (suc room) 0 (λ e. omega arith)) (dead refl (v (suc room)))
+    stays-live c bs f v false true (suc room) q = rw (q, ne-eqb (suc room) 0 (λ e. omega arith))
+        (dead refl (v (suc room)))
     stays-live c bs f v false false (suc room) q =
         let i : suc room - 1 ≡ room = omega arith in
         rw (q, ne-eqb (suc room) 0 (λ e. omega arith), i) (live (keeps c q f) (v room))
@@ -118,4 +126,5 @@ module _ {size : ℕ} {store store′ : List ℕ} (b : Block) (keeps : (c : Bloc
   stays room none = rw (take-nil {A = Block} room) none
   stays room (dead {x = x} z v) = rw (eq-eqb (x .length) 0 z) (dead z (stays room v))
   stays room (live {xs = xs} {b = c} {bs = bs} f v) =
-      rw (ne-eqb (length (c .code)) 0 (λ e. omega (arith, f .some))) (stays-live xs c bs f (λ r. stays r v) (Model.same-key b c) (overlap b c) room refl)
+      rw (ne-eqb (length (c .code)) 0 (λ e. omega (arith, f .some)))
+      (stays-live xs c bs f (λ r. stays r v) (Model.same-key b c) (overlap b c) room refl)

@@ -48,12 +48,13 @@ blocks-call size bs (lookup space pc) = bs
 
 -- ---- histories
 
--- the states that calls lead to, with the model's blocks: an index of any bytes, emptied, with its store; and what a call
--- makes of the last state
+-- the states that calls lead to, with the model's blocks: an index of any bytes, emptied, with its store; and what a
+-- call makes of the last state
 pub data Reached (size : ℕ) : State → List Block → Type 0 where
   begun : (index store : List ℕ) → length index ≡ index-bytes → length store ≡ size → size < 2 ^ 64
       → Reached size (record { index = emptied index; store = store }) []
-  called : {s : State} {bs : List Block} → Reached size s bs → (c : Call) → Fits c → Reached size (after-call s c) (blocks-call size bs c)
+  called : {s : State} {bs : List Block} → Reached size s bs → (c : Call) → Fits c
+      → Reached size (after-call s c) (blocks-call size bs c)
 
 -- ---- the blocks
 
@@ -93,7 +94,8 @@ pub record Looks (index : List ℕ) (space pc : ℕ) (r : Found) : Type 0 where
   -- for any bytes
   pub bytes : r ≡ Index.lookup index space pc
   -- after any calls: the block that was placed last under the key and not dropped
-  pub history : {size : ℕ} {s : State} {bs : List Block} → Reached size s bs → index ≡ s .index → r ≡ Model.lookup bs space pc
+  pub history : {size : ℕ} {s : State} {bs : List Block} → Reached size s bs → index ≡ s .index
+      → r ≡ Model.lookup bs space pc
   -- whose code the store has, as every block's
   pub kept : {size : ℕ} {s : State} {bs : List Block} → Reached size s bs → index ≡ s .index → Kept (s .store) bs
 

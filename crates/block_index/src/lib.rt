@@ -89,7 +89,8 @@ pub fn refused(size: u64, n: u64) -> bool
     size < n
 }
 
-// Where the last block placed ends, 0 where there is none that ends at the bound or before. Nothing overflows: what is left is compared.
+// Where the last block placed ends, 0 where there is none that ends at the bound or before. Nothing overflows: what
+// is left is compared.
 pub fn last_end(m: &[u8], bound: u64) -> u64
     requires { ⌜ length (now m) ≡ L.index-bytes ⌝ }
     ensures { λ r. ⌜ (r ≡ I.last-end (now (m .entry)) bound) × (r ≤ bound) ⌝ }

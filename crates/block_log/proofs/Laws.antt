@@ -114,8 +114,10 @@ module _ (m : List ℕ) (l : length m ≡ index-bytes) (n : ℕ) (h : n ≤ 1023
       record {
         long = w .long ∙ l;
         cells = λ b i.
-            by-eqb (λ (t : Bool). cell (set-cell m c n) b ≡ cond t n (cell m b)) b c (λ e. rw (e, r .1 .0) (omega arith))
-            (λ e. cell-within m (set-cell m c n) (2 * c) (2 * c + 2) l w b i (⊎-map (λ (a : b < c). omega arith) (λ (a : c < b). omega arith) (apart b c e)));
+            by-eqb (λ (t : Bool). cell (set-cell m c n) b ≡ cond t n (cell m b)) b c
+            (λ e. rw (e, r .1 .0) (omega arith))
+            (λ e. cell-within m (set-cell m c n) (2 * c) (2 * c + 2) l w b i
+            (⊎-map (λ (a : b < c). omega arith) (λ (a : c < b). omega arith) (apart b c e)));
         entries = λ q i. s q i .entry;
         nexts = λ q i. rw (ne-eqb q 1024 (λ e. omega arith)) (s q i .next);
       }
@@ -134,15 +136,19 @@ module _ (m : List ℕ) (l : length m ≡ index-bytes) (n : ℕ) (h : n ≤ 1023
         s 1 (at v + 34) (omega arith) (inr (omega arith)),
       ) in
       let other : (q : ℕ) → q ≤ 1023 → (q ≡ v → ⊥) → Same m (set-next m v n) q = λ q i e.
-      same-within m (set-next m v n) (at v + 32) (at v + 34) l w q i (⊎-map (λ (a : q < v). omega arith) (λ (a : v < q). omega arith) (apart q v e)) in
+      same-within m (set-next m v n) (at v + 32) (at v + 34) l w q i
+      (⊎-map (λ (a : q < v). omega arith) (λ (a : v < q). omega arith) (apart q v e)) in
       record {
         long = w .long ∙ l;
         cells = λ b i.
-            rw (ne-eqb b 2049 (λ e. omega arith)) (cell-within m (set-next m v n) (at v + 32) (at v + 34) l w b i (inl (omega arith)));
+            rw (ne-eqb b 2049 (λ e. omega arith))
+            (cell-within m (set-next m v n) (at v + 32) (at v + 34) l w b i (inl (omega arith)));
         entries = λ q i.
-            by-eqb (λ (t : Bool). entry-at (set-next m v n) q ≡ entry-at m q) q v (λ e. rw e there) (λ e. other q i e .entry);
+            by-eqb (λ (t : Bool). entry-at (set-next m v n) q ≡ entry-at m q) q v (λ e. rw e there)
+            (λ e. other q i e .entry);
         nexts = λ q i.
-            by-eqb (λ (t : Bool). next-at (set-next m v n) q ≡ cond t n (next-at m q)) q v (λ e. rw (e, r .1 .0) (omega arith)) (λ e. other q i e .next);
+            by-eqb (λ (t : Bool). next-at (set-next m v n) q ≡ cond t n (next-at m q)) q v
+            (λ e. rw (e, r .1 .0) (omega arith)) (λ e. other q i e .next);
       }
 
 module _ (m : List ℕ) (b p : ℕ) where
@@ -164,7 +170,8 @@ module _ (m : List ℕ) (l : length m ≡ index-bytes) (p : ℕ) (h : p ≤ 1023
       let s = w .loads in
       let f : (j i : ℕ) → i + j ≤ index-bytes → i + j ≤ length m₁ = λ j i g. rw (k .long) g in
       let other : (q : ℕ) → q ≤ 1023 → (q ≡ p → ⊥) → Same m₁ m₂ q = λ q i e.
-      same-within m₁ m₂ (at p + 24) (at p + 32) (k .long) w q i (⊎-map (λ (a : q < p). omega arith) (λ (a : p < q). omega arith) (apart q p e)) in
+      same-within m₁ m₂ (at p + 24) (at p + 32) (k .long) w q i
+      (⊎-map (λ (a : q < p). omega arith) (λ (a : p < q). omega arith) (apart q p e)) in
       let there : entry-at m₂ p ≡ tomb (entry-at m₁ p) =
       rw (
         s 8 (at p) (f 8 (at p) (omega arith)) (inl (omega arith)),
@@ -174,7 +181,8 @@ module _ (m : List ℕ) (l : length m ≡ index-bytes) (p : ℕ) (h : p ≤ 1023
         s 1 (at p + 34) (f 1 (at p + 34) (omega arith)) (inr (omega arith)),
       ) in
       let next : (q : ℕ) → q ≤ 1023 → next-at m₂ q ≡ next-at m₁ q = λ q i.
-      by-eqb (λ (t : Bool). next-at m₂ q ≡ next-at m₁ q) q p (λ e. rw (e, s 2 (at p + 32) (f 2 (at p + 32) (omega arith)) (inr (omega arith)))) (λ e. other q i e .next) in
+      by-eqb (λ (t : Bool). next-at m₂ q ≡ next-at m₁ q) q p
+      (λ e. rw (e, s 2 (at p + 32) (f 2 (at p + 32) (omega arith)) (inr (omega arith)))) (λ e. other q i e .next) in
       record {
         long = w .long ∙ k .long;
         cells = λ b i. cell-within m₁ m₂ (at p + 24) (at p + 32) (k .long) w b i (inl (omega arith)) ∙ k .cells b i;
@@ -190,7 +198,8 @@ module _ (m : List ℕ) (l : length m ≡ index-bytes) (p : ℕ) (h : p ≤ 1023
   unfolding dropped
   drops-head e =
       rw (unlinked-head m b p e)
-      (drops (set-cell m b (next-at m p)) b 1024 (lead-cell m l (next-at m p) (omega arith) b (bucket-lt (space-at m p) (pc-at m p))))
+      (drops (set-cell m b (next-at m p)) b 1024
+      (lead-cell m l (next-at m p) (omega arith) b (bucket-lt (space-at m p) (pc-at m p))))
 
   pub drops-later : (cell m b ≡ p → ⊥) → Drops m p 2049 (previous m (cell m b) p) (dropped m p)
   unfolding dropped

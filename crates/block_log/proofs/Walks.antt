@@ -17,7 +17,8 @@ module _ (m : List ℕ) (test : ℕ → Bool) where
       let on = walk-le k (next-at m p) in
       let past = walk-le k p in
       by-eqb (λ (t : Bool). cond t (cond (test p) p (walk m test k (next-at m p))) (walk m test k p) ≤ suc k) p (suc k)
-      (λ e. by-test (λ (t : Bool). cond t p (walk m test k (next-at m p)) ≤ suc k) (test p) (λ q. omega arith) (λ q. omega arith)) (λ e. omega arith)
+      (λ e. by-test (λ (t : Bool). cond t p (walk m test k (next-at m p)) ≤ suc k) (test p) (λ q. omega arith)
+      (λ q. omega arith)) (λ e. omega arith)
 
   walk-high : (k p : ℕ) → k < p → walk m test k p ≡ 0
   unfolding walk
@@ -43,7 +44,8 @@ module _ (m : List ℕ) (test : ℕ → Bool) where
   unfolding walk
   walk-none p r e h = rw e at h
 
-  pub walk-here : (k : ℕ) → walk m test (suc k) (suc k) ≡ cond (test (suc k)) (suc k) (walk m test k (next-at m (suc k)))
+  pub walk-here : (k : ℕ)
+      → walk m test (suc k) (suc k) ≡ cond (test (suc k)) (suc k) (walk m test k (next-at m (suc k)))
   unfolding walk
   walk-here k = rw (eq-eqb (suc k) (suc k) refl)
 
@@ -51,7 +53,8 @@ module _ (m : List ℕ) (test : ℕ → Bool) where
   walk-hit zero h e = absurd (h refl)
   walk-hit (suc k) h e = walk-here k ∙ rw e
 
-  pub walk-on : (p : ℕ) → (p ≡ 0 → ⊥) → test p ≡ false → next-at m p < p → walk m test p p ≡ walk m test (next-at m p) (next-at m p)
+  pub walk-on : (p : ℕ) → (p ≡ 0 → ⊥) → test p ≡ false → next-at m p < p
+      → walk m test p p ≡ walk m test (next-at m p) (next-at m p)
   walk-on zero h e l = absurd (h refl)
   walk-on (suc k) h e l = walk-here k ∙ rw e (walk-down k (next-at m (suc k)) (omega arith))
 

@@ -4,8 +4,8 @@
 -- Bytes 0 to 4,095 are 2,048 cells of 2 bytes: cell b is the head of bucket b's chain. The cell after them is the last
 -- slot used; it stands in the room of slot 0, which holds no block. Slot p, 1 to 1,023, has 40 bytes at 4,096 + 40 p:
 -- space, PC, start and length of 8 bytes each, the next slot of its bucket's chain in 2, the count; 5 are not used. A
--- length of 0 is a tombstone: the block was dropped, and the slot is in no chain. Slot 0 is no slot, so that a chain ends there. A slot's number is
--- taken modulo 1,024, so that any bytes are a log.
+-- length of 0 is a tombstone: the block was dropped, and the slot is in no chain. Slot 0 is no slot, so that a chain
+-- ends there. A slot's number is taken modulo 1,024, so that any bytes are a log.
 use Prim.Native.Nat.{ℕ, zero, suc, _+_, _-_, _*_, _%_}
 use mathlib.Core.Bool.{Bool, cond}
 use mathlib.Core.List.{List, _++_}
@@ -92,8 +92,8 @@ tombstone m p = eqb (length-at m p) 0
 
 -- ---- chains
 
--- the first slot of a chain that passes a test, 0 where none does: the chain goes on from slot p at slot k or below, and
--- its slots' numbers fall
+-- the first slot of a chain that passes a test, 0 where none does: the chain goes on from slot p at slot k or below,
+-- and its slots' numbers fall
 unfoldable pub walk : List ℕ → (ℕ → Bool) → ℕ → ℕ → ℕ
 walk m test zero p = 0
 walk m test (suc k) p = cond (eqb p (suc k)) (cond (test p) p (walk m test k (next-at m p))) (walk m test k p)
@@ -102,8 +102,8 @@ walk m test (suc k) p = cond (eqb p (suc k)) (cond (test p) p (walk m test k (ne
 abbrev pub previous : List ℕ → ℕ → ℕ → ℕ
 previous m head p = walk m (λ q. eqb (next-at m q) p) (slots - 1) head
 
--- slot p out of bucket b's chain: the cell or the slot that led to it leads to the next one. Where the chain does not have
--- p, slot 0's next is written, which no walk reads
+-- slot p out of bucket b's chain: the cell or the slot that led to it leads to the next one. Where the chain does not
+-- have p, slot 0's next is written, which no walk reads
 unfoldable pub unlinked : List ℕ → ℕ → ℕ → List ℕ
 unlinked m b p =
     cond (eqb (cell m b) p) (set-cell m b (next-at m p)) (set-next m (previous m (cell m b) p) (next-at m p))

@@ -124,7 +124,8 @@ fn put(m: &mut [u8], p: u16, e: Entry, next: u16)
     put_count(m, p, e.count);
 }
 
-// The slot before p in the chain with this head, 0 where there is none. In a log that the calls made, the slots of a chain fall.
+// The slot before p in the chain with this head, 0 where there is none. In a log that the calls made, the slots of a
+// chain fall.
 fn previous(m: &[u8], head: u16, p: u16) -> u16
     requires { ⌜ (length (now m) ≡ L.index-bytes) × (head < L.slots) ⌝ }
     ensures { λ r. ⌜ (r ≡ L.previous (now (m .entry)) head p) × (r < L.slots) ⌝ }

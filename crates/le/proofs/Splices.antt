@@ -17,7 +17,14 @@ splice-append m at s t h =
     let l : length p ≡ at + length s = length-append (take at m) s ∙ rw (length-take-le at m h) in
     let e : take at m ++ (s ++ d) ≡ p ++ d = sym (append-assoc (take at m) s d) in
     let z : drop (at + length s + length t) (p ++ d) ≡ drop (length t) d = rw l at (drop-append-add p d (length t)) in
-    rw (e, take-at p d (at + length s) l, z, drop-drop (length t) (at + length s) m, length-append s t, ← add-assoc at (length s) (length t))
+    rw (
+      e,
+      take-at p d (at + length s) l,
+      z,
+      drop-drop (length t) (at + length s) m,
+      length-append s t,
+      ← add-assoc at (length s) (length t),
+    )
     (simp append-assoc)
 
 pub splice-nothing : (m : List ℕ) (at : ℕ) → splice m at [] ≡ m
@@ -50,5 +57,8 @@ module _ (m : List ℕ) (at : ℕ) (s : List ℕ) (h : at + length s ≤ length 
   splice-before i n g =
       let l : length (take at m) ≡ at = length-take-le at m (omega arith) in
       let front : (r : List ℕ) → take n (drop i (take at m ++ r)) ≡ take n (drop i (take at m)) = λ r.
-      rw (drop-append-le i (take at m) r (omega arith), take-append-le n (drop i (take at m)) r (rw (length-drop i (take at m)) (omega arith))) in
+      rw (
+        drop-append-le i (take at m) r (omega arith),
+        take-append-le n (drop i (take at m)) r (rw (length-drop i (take at m)) (omega arith)),
+      ) in
       front (s ++ drop (at + length s) m) ∙ sym (front (drop at m)) ∙ rw (take-append-drop at m)

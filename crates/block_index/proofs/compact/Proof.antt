@@ -11,7 +11,8 @@ use Rattle.block_index.proofs.compact.Tie as tie
 
 -- the reinserting from here ends as the whole does
 abbrev Inv-loop : tie.InvT-loop
-Inv-loop m₀ n p₀ m p = (length m ≡ index-bytes) × (1 ≤ p) × (p ≤ n + 1) × (reinserted m (n + 1 - p) p ≡ reinserted m₀ n 1)
+Inv-loop m₀ n p₀ m p = (length m ≡ index-bytes) × (1 ≤ p) × (p ≤ n + 1)
+    × (reinserted m (n + 1 - p) p ≡ reinserted m₀ n 1)
 
 abbrev μ-loop : tie.MeasureT-loop
 μ-loop m₀ n p₀ m p = n + 1 - p
@@ -24,8 +25,15 @@ loop-holds c =
 loop-again : tie.Need-loop-again Inv-loop μ-loop
 loop-again c =
     let l = c .before .before .before .before .before .loop in
-    let s = c .before .before .reinsert-at in
-    (s .kept .0 ∙ l .inv .0, omega arith, omega arith, rw (s .ensures) (sym (reinserted-step (l .m) (c .before .before .before .before .before .before .before .before .before .before .used .result) (l .p) (omega arith)) ∙ l .inv .3))
+    let s = c .before .before .reinsert-at in (
+      s .kept .0 ∙ l .inv .0,
+      omega arith,
+      omega arith,
+      rw (s .ensures)
+          (sym (reinserted-step (l .m)
+          (c .before .before .before .before .before .before .before .before .before .before .used .result) (l .p)
+          (omega arith)) ∙ l .inv .3),
+    )
 
 returns : tie.Need-returns Inv-loop μ-loop
 unfolding reinserted

@@ -12,18 +12,30 @@ returns c =
 
 returns-2 : tie.Need-returns-2
 returns-2 c =
-    let a = c .before .before .before .before .before .before .args in
-    (end-beyond (a .m .now) (a .bound) _ _ _ (c .before .before .before .before .used .ensures .0) (c .before .before .start-at .ensures) (c .before .length-at .ensures) (c .before .before .before .if1 .left) (omega arith), omega arith)
+    let a = c .before .before .before .before .before .before .args in (
+      end-beyond (a .m .now) (a .bound) _ _ _ (c .before .before .before .before .used .ensures .0)
+          (c .before .before .start-at .ensures) (c .before .length-at .ensures) (c .before .before .before .if1 .left)
+          (omega arith),
+      omega arith,
+    )
 
 returns-3 : tie.Need-returns-3
 returns-3 c =
-    let a = c .before .before .before .before .before .before .before .args in
-    (end-beyond (a .m .now) (a .bound) _ _ _ (c .before .before .before .before .before .used .ensures .0) (c .before .before .before .start-at .ensures) (c .before .before .length-at .ensures) (c .before .before .before .before .if1 .left) (omega arith), omega arith)
+    let a = c .before .before .before .before .before .before .before .args in (
+      end-beyond (a .m .now) (a .bound) _ _ _ (c .before .before .before .before .before .used .ensures .0)
+          (c .before .before .before .start-at .ensures) (c .before .before .length-at .ensures)
+          (c .before .before .before .before .if1 .left) (omega arith),
+      omega arith,
+    )
 
 returns-4 : tie.Need-returns-4
 returns-4 c =
-    let a = c .before .before .before .before .before .before .before .args in
-    (end-there (a .m .now) (a .bound) _ _ _ (c .before .before .before .before .before .used .ensures .0) (c .before .before .before .start-at .ensures) (c .before .before .length-at .ensures) (c .before .before .before .before .if1 .left) (omega arith), omega arith)
+    let a = c .before .before .before .before .before .before .before .args in (
+      end-there (a .m .now) (a .bound) _ _ _ (c .before .before .before .before .before .used .ensures .0)
+          (c .before .before .before .start-at .ensures) (c .before .before .length-at .ensures)
+          (c .before .before .before .before .if1 .left) (omega arith),
+      omega arith,
+    )
 
 pub last-end-spec : {M : Type 1} → statement M
 last-end-spec =

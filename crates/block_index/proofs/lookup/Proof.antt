@@ -7,12 +7,17 @@ use Rattle.block_index.proofs.lookup.Tie as tie
 returns : tie.Need-returns
 returns c =
     let a = c .before .before .before .args in
-    looks (a .m .now) (a .space) (a .pc) _ (found-none (a .m .now) (a .space) (a .pc) (c .before .slot-of .result) (c .before .slot-of .ensures .0) (c .if1 .taken))
+    looks (a .m .now) (a .space) (a .pc) _
+    (found-none (a .m .now) (a .space) (a .pc) (c .before .slot-of .result) (c .before .slot-of .ensures .0)
+    (c .if1 .taken))
 
 returns-2 : tie.Need-returns-2
 returns-2 c =
     let a = c .before .before .before .before .before .before .args in
-    looks (a .m .now) (a .space) (a .pc) _ (rw (c .before .before .start-at .ensures, c .before .length-at .ensures, c .count-at .ensures) (found-some (a .m .now) (a .space) (a .pc) (c .before .before .before .before .slot-of .result) (c .before .before .before .before .slot-of .ensures .0) (c .before .before .before .if1 .left)))
+    looks (a .m .now) (a .space) (a .pc) _
+    (rw (c .before .before .start-at .ensures, c .before .length-at .ensures, c .count-at .ensures)
+    (found-some (a .m .now) (a .space) (a .pc) (c .before .before .before .before .slot-of .result)
+    (c .before .before .before .before .slot-of .ensures .0) (c .before .before .before .if1 .left)))
 
 pub lookup-spec : {M : Type 1} → statement M
 lookup-spec =

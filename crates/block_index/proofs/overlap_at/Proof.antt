@@ -12,7 +12,9 @@ returns-2 : tie.Need-returns-2
 returns-2 c = let a = c .before .before .before .before .args in overlap-before (a .m .now) (a .start) (a .end) (a .p) _ (c .before .before .start-at .ensures) (omega arith) (c .if2 .taken)
 
 returns-3 : tie.Need-returns-3
-returns-3 c = let a = c .before .before .before .before .before .args in overlap-after (a .m .now) (a .start) (a .end) (a .p) _ (c .before .before .before .start-at .ensures) (omega arith) _ (c .length-at .ensures) (omega arith)
+returns-3 c = let a = c .before .before .before .before .before .args in overlap-after (a .m .now) (a .start)
+    (a .end) (a .p) _ (c .before .before .before .start-at .ensures) (omega arith) _ (c .length-at .ensures)
+    (omega arith)
 
 pub overlap-at-spec : {M : Type 1} → statement M
 overlap-at-spec =

@@ -17,26 +17,43 @@ abbrev μ-loop : tie.MeasureT-loop
 
 loop-holds : tie.Need-loop-holds Inv-loop μ-loop
 loop-holds c =
-    let a = c .before .before .before .args in
-    (c .cell .ensures .1, rw (← c .before .bucket .ensures .0, ← c .cell .ensures .0) (walk-start (a .m .now) (key-at (a .m .now) (a .space) (a .pc)) (c .cell .result) (c .cell .ensures .1)))
+    let a = c .before .before .before .args in (
+      c .cell .ensures .1,
+      rw (← c .before .bucket .ensures .0, ← c .cell .ensures .0)
+          (walk-start (a .m .now) (key-at (a .m .now) (a .space) (a .pc)) (c .cell .result) (c .cell .ensures .1)),
+    )
 
 returns : tie.Need-returns Inv-loop μ-loop
 returns c =
     let a = c .before .before .before .before .before .before .before .args in
-    let l = c .before .before .before .loop in
-    (sym (walk-hit (a .m .now) (key-at (a .m .now) (a .space) (a .pc)) (l .p) (c .before .before .loop-test .taken) (sym (c .before .key-at .ensures) ∙ c .if1 .taken)) ∙ l .inv .1, l .inv .0)
+    let l = c .before .before .before .loop in (
+      sym (walk-hit (a .m .now) (key-at (a .m .now) (a .space) (a .pc)) (l .p) (c .before .before .loop-test .taken)
+          (sym (c .before .key-at .ensures) ∙ c .if1 .taken)) ∙ l .inv .1,
+      l .inv .0,
+    )
 
 returns-2 : tie.Need-returns-2 Inv-loop μ-loop
 returns-2 c =
     let a = c .before .before .before .before .before .before .before .before .before .args in
-    let l = c .before .before .before .before .before .loop in
-    (sym (walk-end (a .m .now) (key-at (a .m .now) (a .space) (a .pc)) (l .p) (c .before .before .before .before .loop-test .taken) (sym (c .before .before .before .key-at .ensures) ∙ c .before .before .if1 .left) (omega (arith, c .before .next-at .ensures .0))) ∙ l .inv .1, omega arith)
+    let l = c .before .before .before .before .before .loop in (
+      sym (walk-end (a .m .now) (key-at (a .m .now) (a .space) (a .pc)) (l .p)
+          (c .before .before .before .before .loop-test .taken)
+          (sym (c .before .before .before .key-at .ensures) ∙ c .before .before .if1 .left)
+          (omega (arith, c .before .next-at .ensures .0))) ∙ l .inv .1,
+      omega arith,
+    )
 
 loop-again : tie.Need-loop-again Inv-loop μ-loop
 loop-again c =
     let a = c .before .before .before .before .before .before .before .before .before .args in
-    let l = c .before .before .before .before .before .loop in
-    (c .before .next-at .ensures .1, rw (c .before .next-at .ensures .0) (sym (walk-on (a .m .now) (key-at (a .m .now) (a .space) (a .pc)) (l .p) (c .before .before .before .before .loop-test .taken) (sym (c .before .before .before .key-at .ensures) ∙ c .before .before .if1 .left) (omega (arith, c .before .next-at .ensures .0))) ∙ l .inv .1))
+    let l = c .before .before .before .before .before .loop in (
+      c .before .next-at .ensures .1,
+      rw (c .before .next-at .ensures .0)
+          (sym (walk-on (a .m .now) (key-at (a .m .now) (a .space) (a .pc)) (l .p)
+          (c .before .before .before .before .loop-test .taken)
+          (sym (c .before .before .before .key-at .ensures) ∙ c .before .before .if1 .left)
+          (omega (arith, c .before .next-at .ensures .0))) ∙ l .inv .1),
+    )
 
 returns-3 : tie.Need-returns-3 Inv-loop μ-loop
 returns-3 c =

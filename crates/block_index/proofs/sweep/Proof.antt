@@ -11,7 +11,8 @@ use Rattle.block_index.proofs.sweep.Tie as tie
 
 -- the sweep from here ends as the whole does
 abbrev Inv-loop : tie.InvT-loop
-Inv-loop m₀ e room room₀ p₀ m room' p = (length m ≡ index-bytes) × (p < slots) × (swept m e room' p ≡ swept m₀ e room (used m₀))
+Inv-loop m₀ e room room₀ p₀ m room' p = (length m ≡ index-bytes) × (p < slots)
+    × (swept m e room' p ≡ swept m₀ e room (used m₀))
 
 abbrev μ-loop : tie.MeasureT-loop
 μ-loop m₀ e room room₀ p₀ m room' p = p

@@ -26,7 +26,8 @@ returns-3 c =
 
 returns-4 : tie.Need-returns-4
 returns-4 c =
-    let z = ne-eqb _ _ (rw (c .before .before .before .before .before .length-at .ensures) at (c .before .before .before .before .if1 .left)) in
+    let z = ne-eqb _ _ (rw (c .before .before .before .before .before .length-at .ensures) at
+    (c .before .before .before .before .if1 .left)) in
     let o = ne-eqb _ _ (c .before .before .before .if2 .left) in
     let e = c .before .evicts .ensures in
     (rw (z, o, ← e, c .if3 .left), rw (z, o, ← e, c .if3 .left))

@@ -22,30 +22,43 @@ abbrev μ-loop : tie.MeasureT-loop
 μ-loop m head p q₀ q = q
 
 loop-holds : tie.Need-loop-holds Inv-loop μ-loop
-loop-holds c = let a = c .before .args in (c .before .pre .1, walk-start (a .m .now) (before-p (a .m .now) (a .p)) (a .head) (c .before .pre .1))
+loop-holds c =
+    let a = c .before .args in
+    let h = c .before .pre .1 in
+    (h, walk-start (a .m .now) (before-p (a .m .now) (a .p)) (a .head) h)
 
 returns : tie.Need-returns Inv-loop μ-loop
 returns c =
     let a = c .before .before .before .before .before .args in
     let l = c .before .before .before .loop in
-    let e = eq-eqb (L.next-at (a .m .now) (l .q)) (a .p) (sym (c .before .next-at .ensures .0) ∙ c .if1 .taken) in
-    (sym (walk-hit (a .m .now) (before-p (a .m .now) (a .p)) (l .q) (c .before .before .loop-test .taken) e) ∙ l .inv .1, l .inv .0)
+    let e = eq-eqb (L.next-at (a .m .now) (l .q)) (a .p) (sym (c .before .next-at .ensures .0) ∙ c .if1 .taken) in (
+      sym (walk-hit (a .m .now) (before-p (a .m .now) (a .p)) (l .q) (c .before .before .loop-test .taken) e)
+          ∙ l .inv .1,
+      l .inv .0,
+    )
 
 returns-2 : tie.Need-returns-2 Inv-loop μ-loop
 returns-2 c =
     let a = c .before .before .before .before .before .before .args in
     let l = c .before .before .before .before .loop in
     let n = c .before .before .next-at .ensures .0 in
-    let e = ne-eqb (L.next-at (a .m .now) (l .q)) (a .p) (λ o. c .before .if1 .left (n ∙ o)) in
-    (sym (walk-end (a .m .now) (before-p (a .m .now) (a .p)) (l .q) (c .before .before .before .loop-test .taken) e (omega arith)) ∙ l .inv .1, omega arith)
+    let e = ne-eqb (L.next-at (a .m .now) (l .q)) (a .p) (λ o. c .before .if1 .left (n ∙ o)) in (
+      sym (walk-end (a .m .now) (before-p (a .m .now) (a .p)) (l .q) (c .before .before .before .loop-test .taken) e
+          (omega arith)) ∙ l .inv .1,
+      omega arith,
+    )
 
 loop-again : tie.Need-loop-again Inv-loop μ-loop
 loop-again c =
     let a = c .before .before .before .before .before .before .args in
     let l = c .before .before .before .before .loop in
     let n = c .before .before .next-at .ensures in
-    let e = ne-eqb (L.next-at (a .m .now) (l .q)) (a .p) (λ o. c .before .if1 .left (n .0 ∙ o)) in
-    (n .1, rw (n .0) (sym (walk-on (a .m .now) (before-p (a .m .now) (a .p)) (l .q) (c .before .before .before .loop-test .taken) e (omega (arith, n .0))) ∙ l .inv .1))
+    let e = ne-eqb (L.next-at (a .m .now) (l .q)) (a .p) (λ o. c .before .if1 .left (n .0 ∙ o)) in (
+      n .1,
+      rw (n .0) (sym
+          (walk-on (a .m .now) (before-p (a .m .now) (a .p)) (l .q) (c .before .before .before .loop-test .taken) e
+          (omega (arith, n .0))) ∙ l .inv .1),
+    )
 
 returns-3 : tie.Need-returns-3 Inv-loop μ-loop
 returns-3 c =

@@ -8,7 +8,10 @@ returns : tie.Need-returns
 returns c =
     let a = c .before .before .before .before .before .before .before .before .before .before .args in
     let h = c .before .before .before .before .before .cell .ensures .0 in
-    rw (c .before .before .store16 .ensures, c .before .before .before .before .before .before .before .next-at .ensures .0)
+    rw (
+      c .before .before .store16 .ensures,
+      c .before .before .before .before .before .before .before .next-at .ensures .0,
+    )
     (sym (unlinked-head (a .m .now) (a .b) (a .p) (sym h ∙ c .before .before .before .before .if1 .taken)))
 
 returns-2 : tie.Need-returns-2
@@ -21,7 +24,8 @@ returns-2 c =
       h,
       c .before .before .before .before .before .before .before .before .before .next-at .ensures .0,
     )
-    (sym (unlinked-later (a .m .now) (a .b) (a .p) (λ e. c .before .before .before .before .before .before .if1 .left (h ∙ e))))
+    (sym (unlinked-later (a .m .now) (a .b) (a .p)
+    (λ e. c .before .before .before .before .before .before .if1 .left (h ∙ e))))
 
 pub unlink-spec : {M : Type 1} → statement M
 unlink-spec =

@@ -12,7 +12,11 @@ use Rattle.listing.proofs.put_lines.Statement.{statement}
 use Rattle.listing.proofs.put_lines.Tie as tie
 
 abbrev Inv-loop : tie.InvT-loop
-Inv-loop block out₀ count at₀ i₀ out at i = (count ≡ length block / 4) × (i ≤ count) × (any-outside (lines-from block i) ≡ false) × (at + length (listing (lines-from block i)) ≡ length (listing (block-lines block))) × (length out ≡ length out₀) × (splice out at (listing (lines-from block i)) ≡ splice out₀ 0 (listing (block-lines block)))
+Inv-loop block out₀ count at₀ i₀ out at i = (count ≡ length block / 4) × (i ≤ count)
+    × (any-outside (lines-from block i) ≡ false)
+    × (at + length (listing (lines-from block i)) ≡ length (listing (block-lines block)))
+    × (length out ≡ length out₀)
+    × (splice out at (listing (lines-from block i)) ≡ splice out₀ 0 (listing (block-lines block)))
 
 abbrev μ-loop : tie.MeasureT-loop
 μ-loop block out₀ count at₀ i₀ out at i = count - i
