@@ -28,7 +28,7 @@ use Rattle.block_index.specs.History.{Call, State, Reached, All, Kept, L
 use Rattle.block_index.specs.History.Reached.{begun, called}
 use Rattle.block_index.proofs.Steps.{accepted}
 use Rattle.block_index.proofs.Chains.{Lists, empties, pushing, head, head-le, sweep, sweeping, reinserted-from}
-use Rattle.block_index.proofs.Keys.{distinct}
+use Rattle.block_index.proofs.Keys.{Distinct, distinct-placed, start-aligned}
 use Rattle.block_index.proofs.Views.{entry-of, Fine, Views, all-fine, together, finds, fits, reinserts, stays}
 use Rattle.block_index.proofs.Views.Views.{none, dead, live}
 
@@ -244,6 +244,21 @@ looking {m = m} space pc g =
           (head-le (bucket space pc) (g .es)),
     )
     (finds m space pc (g .views) (g .lists .rows))
+
+-- no two blocks have one key or share a byte, and each is aligned
+distinct-call : (size : ℕ) (bs : List Block) (c : Call) → Distinct bs → Distinct (blocks-call size bs c)
+distinct-call size bs Call.empty d = record { keys = tt; apart = tt; aligned = tt }
+distinct-call size bs (Call.place space pc count code) d =
+    let new = Model.block size bs space pc count code in
+    by-test (λ (t : Bool). Model.refused size (length code) ≡ t → Distinct (cond t bs (Model.placed index-entries bs new)))
+    (Model.refused size (length code)) (λ p q. d)
+    (λ p q. distinct-placed bs new
+    (start-aligned size bs (length code) (d .aligned), accepted size (length code) q .2) d) refl
+distinct-call size bs (Call.lookup space pc) d = d
+
+distinct : {size : ℕ} {s : State} {bs : List Block} → Reached size s bs → Distinct bs
+distinct (begun index store l k h) = record { keys = tt; apart = tt; aligned = tt }
+distinct (called {bs = bs} r c f) = distinct-call _ bs c (distinct r)
 
 all-kept : {size : ℕ} {s : State} {bs : List Block} → Reached size s bs → Kept (s .store) bs
 all-kept {s = s} r =

@@ -1,4 +1,4 @@
--- The model's blocks after any calls: no two have one key or share a byte, and each is aligned. Assumes nothing.
+-- The model's blocks after a placing: no two have one key or share a byte, and each is aligned. Assumes nothing.
 use mathlib.Core.Path.{_≡_, refl}
 use mathlib.Core.Bool.{Bool, false, cond}
 use mathlib.Core.List.{List, [], _∷_}
@@ -8,10 +8,14 @@ use lib.Dec.{ltb}
 use lib.ListN.{length, take}
 use Rattle.block_log.proofs.Tests.{by-test}
 use Rattle.rules.specs.Limits.{index-entries}
-use Rattle.block_index.specs.Model.{Block, refused, last-end, start, overlap, same-key, without, with-room, placed, block}
-use Rattle.block_index.specs.History.{Call, State, Reached, All, Never, Aligned, blocks-call}
-use Rattle.block_index.specs.History.Reached.{begun, called}
-use Rattle.block_index.proofs.Steps.{accepted}
+use Rattle.block_index.specs.Model.{Block, last-end, start, overlap, same-key, without, with-room, placed}
+use Rattle.block_index.specs.History.{All, Never, Aligned}
+
+-- of the list with its oldest, and of that without it
+room : (Q : List Block → Type 0) (entries : ℕ) (bs : List Block) → Q bs → Q (take (length bs - 1) bs)
+    → Q (with-room entries bs)
+room Q entries bs a b =
+    by-test (λ (t : Bool). Q (cond t bs (take (length bs - 1) bs))) (ltb (length bs) entries) (λ q. a) (λ q. b)
 
 module _ (P : Block → Type 0) where
   pub all-without : (test : Block → Bool) (bs : List Block) → All P bs → All P (without test bs)
@@ -26,9 +30,7 @@ module _ (P : Block → Type 0) where
   all-take (suc n) (b ∷ bs) a = (a .0, all-take n bs (a .1))
 
   pub all-room : (entries : ℕ) (bs : List Block) → All P bs → All P (with-room entries bs)
-  all-room entries bs a =
-      by-test (λ (t : Bool). All P (cond t bs (take (length bs - 1) bs))) (ltb (length bs) entries) (λ q. a)
-      (λ q. all-take (length bs - 1) bs a)
+  all-room entries bs a = room (All P) entries bs a (all-take (length bs - 1) bs a)
 
 none-left : (test : Block → Bool) (bs : List Block) → All (λ c. test c ≡ false) (without test bs)
 none-left test [] = tt
@@ -50,9 +52,7 @@ module _ (r : Block → Block → Bool) where
   pair-take (suc n) (b ∷ bs) a = (all-take (λ c. r b c ≡ false) n bs (a .0), pair-take n bs (a .1))
 
   pair-room : (entries : ℕ) (bs : List Block) → Never r bs → Never r (with-room entries bs)
-  pair-room entries bs a =
-      by-test (λ (t : Bool). Never r (cond t bs (take (length bs - 1) bs))) (ltb (length bs) entries) (λ q. a)
-      (λ q. pair-take (length bs - 1) bs a)
+  pair-room entries bs a = room (Never r) entries bs a (pair-take (length bs - 1) bs a)
 
 keys-placed : (entries : ℕ) (bs : List Block) (b : Block) → Never same-key bs → Never same-key (placed entries bs b)
 keys-placed entries bs b a =
@@ -77,19 +77,19 @@ last-aligned : (bs : List Block) → All Aligned bs → last-end bs % 4 ≡ 0
 last-aligned [] a = refl
 last-aligned (b ∷ bs) a = omega arith
 
-start-aligned : (size : ℕ) (bs : List Block) (n : ℕ) → All Aligned bs → start size bs n % 4 ≡ 0
+pub start-aligned : (size : ℕ) (bs : List Block) (n : ℕ) → All Aligned bs → start size bs n % 4 ≡ 0
 start-aligned size bs n a =
     by-test (λ (t : Bool). cond t 0 (last-end bs) % 4 ≡ 0) (ltb size (last-end bs + n)) (λ q. refl)
     (λ q. last-aligned bs a)
 
--- ---- after any calls
+-- ---- after a placing
 
 pub record Distinct (bs : List Block) : Type 0 where
   pub keys : Never same-key bs
   pub apart : Never overlap bs
   pub aligned : All Aligned bs
 
-distinct-placed : (bs : List Block) (b : Block) → Aligned b → Distinct bs → Distinct (placed index-entries bs b)
+pub distinct-placed : (bs : List Block) (b : Block) → Aligned b → Distinct bs → Distinct (placed index-entries bs b)
 distinct-placed bs b w d =
     let rest = without (same-key b) bs in
     record {
@@ -101,17 +101,3 @@ distinct-placed bs b w d =
             (all-without Aligned (overlap b) rest (all-without Aligned (same-key b) bs (d .aligned))),
       );
     }
-
-distinct-call : (size : ℕ) (bs : List Block) (c : Call) → Distinct bs → Distinct (blocks-call size bs c)
-distinct-call size bs Call.empty d = record { keys = tt; apart = tt; aligned = tt }
-distinct-call size bs (Call.place space pc count code) d =
-    let new = block size bs space pc count code in
-    by-test (λ (t : Bool). refused size (length code) ≡ t → Distinct (cond t bs (placed index-entries bs new)))
-    (refused size (length code)) (λ p q. d)
-    (λ p q. distinct-placed bs new
-    (start-aligned size bs (length code) (d .aligned), accepted size (length code) q .2) d) refl
-distinct-call size bs (Call.lookup space pc) d = d
-
-pub distinct : {size : ℕ} {s : State} {bs : List Block} → Reached size s bs → Distinct bs
-distinct (begun index store l k h) = record { keys = tt; apart = tt; aligned = tt }
-distinct (called {bs = bs} r c f) = distinct-call _ bs c (distinct r)
