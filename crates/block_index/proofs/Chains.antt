@@ -1,7 +1,7 @@
 -- The bytes of an index as the list of what was placed, the newest first, and what the operations make of that list. Assumes nothing.
 use mathlib.Core.Path.{_≡_, refl, sym, ap, subst⁻¹, _∙_}
 use mathlib.Core.Logic.{_⊎_, inl, inr}
-use mathlib.Core.Bool.{Bool, true, false, cond, not, _&&_, _||_, true≢false}
+use mathlib.Core.Bool.{Bool, true, false, cond, not, _&&_, _||_, true≢false, and-true}
 use mathlib.Core.List.{List, [], _∷_, _++_}
 use Prim.Native.Nat.{ℕ, zero, suc, _+_, _-_, _≤_, _<_}
 use native.Mathlib.Omega.{arith}
@@ -16,7 +16,7 @@ use Rattle.block_log.specs.Log.{index-bytes, bucket, cell, used, emptied, next-
 use Rattle.block_log.proofs.Laws.{Same, both, Fits, same-within, tomb, Drops, drops-head, drops-later, emptied-within, emptied-cell, bucket-lt, pushes}
 use Rattle.block_log.proofs.Tests.{by-test, by-eqb}
 use Rattle.block_log.proofs.Walks.{walk-le, walk-past, walk-up, walk-here}
-use Rattle.block_index.specs.Index.{key-at, swept, reinserted-at, reinserted}
+use Rattle.block_index.specs.Index.{block-at, swept, reinserted-at, reinserted}
 
 -- ---- the list
 
@@ -109,23 +109,20 @@ module _ (m : List ℕ) (b : ℕ) (x : Entry) (xs : List Entry) (r : Rows m (x �
       (λ q. walk-here m test n ∙ rw (next-is q)) (λ q. walk-past m test n (head b xs) (head-le b xs))
 
 abbrev pub has : ℕ → ℕ → Entry → Bool
-has space pc x = not (eqb (x .length) 0) && (eqb (x .space) space && eqb (x .pc) pc)
+has space pc x = eqb (x .space) space && eqb (x .pc) pc && not (eqb (x .length) 0)
 
 module _ (m : List ℕ) (space pc : ℕ) where
   abbrev test : ℕ → Bool
-  test = key-at m space pc
+  test = block-at m space pc
 
   -- what is not in the key's chain is not its block
   other : (x : Entry) → linked (bucket space pc) x ≡ false → has space pc x ≡ false
-  other x =
-      let key = eqb (x .space) space && eqb (x .pc) pc in
-      by-eqb (λ (t : Bool). (not t && eqb (bucket (x .space) (x .pc)) (bucket space pc)) ≡ false
-      → (not t && key) ≡ false) (x .length) 0
-      (λ z h. refl)
-      (λ z h. by-eqb (λ (t : Bool). (t && eqb (x .pc) pc) ≡ false) (x .space) space
-      (λ q. by-eqb (λ (t : Bool). t ≡ false) (x .pc) pc
-      (λ r. absurd (true≢false (sym (eq-eqb (bucket (x .space) (x .pc)) (bucket space pc) (rw (q, r))) ∙ h)))
-      (λ r. refl)) (λ q. refl))
+  other x h =
+      let some = not (eqb (x .length) 0) in
+      by-eqb (λ (t : Bool). (t && eqb (x .pc) pc && some) ≡ false) (x .space) space
+      (λ q. by-eqb (λ (t : Bool). (t && some) ≡ false) (x .pc) pc
+      (λ r. sym (and-true some) ∙ (rw (q, r, eq-eqb (bucket space pc) (bucket space pc) refl) at h)) (λ r. refl))
+      (λ q. refl)
 
   pub walk-step : (x : Entry) (xs : List Entry) → Rows m (x ∷ xs)
       → walk m test (suc (length xs)) (head (bucket space pc) (x ∷ xs))
@@ -136,9 +133,7 @@ module _ (m : List ℕ) (space pc : ℕ) where
       chain-step m (bucket space pc) x xs r test
       ∙ by-test (λ (t : Bool). cond t (cond (test (suc n)) (suc n) w) w ≡ cond (has space pc x) (suc n) w)
       (linked (bucket space pc) x)
-      (λ q. ap (λ (y : Entry). cond (eqb (y .space) space && eqb (y .pc) pc) (suc n) w) (r .0)
-      ∙ rw (ne-eqb (x .length) 0 (λ z. omega (arith, linked-is (bucket space pc) x q .0))))
-      (λ q. rw (other x q))
+      (λ q. ap (λ (y : Entry). cond (has space pc y) (suc n) w) (r .0)) (λ q. rw (other x q))
 
 -- ---- a block dropped
 

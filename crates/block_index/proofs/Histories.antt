@@ -228,10 +228,10 @@ good (begun index store l k h) = blank index store l k h
 good (called {s = s} {bs = bs} r c f) = call _ s bs c f (good r)
 
 lookup-is : (m : List ℕ) (space pc k : ℕ) → k ≡ 1023
-    → Index.lookup m space pc ≡ Index.found-at m (walk m (Index.key-at m space pc) k (cell m (bucket space pc)))
+    → Index.lookup m space pc ≡ Index.found-at m (walk m (Index.block-at m space pc) k (cell m (bucket space pc)))
 unfolding Index.lookup
 lookup-is m space pc k e =
-    ap (λ (i : ℕ). Index.found-at m (walk m (Index.key-at m space pc) i (cell m (bucket space pc)))) (sym e)
+    ap (λ (i : ℕ). Index.found-at m (walk m (Index.block-at m space pc) i (cell m (bucket space pc)))) (sym e)
 
 pub looking : {entries size : ℕ} {m store : List ℕ} {bs : List Block} (space pc : ℕ) → Good entries size m store bs
     → Index.lookup m space pc ≡ Model.lookup bs space pc
@@ -240,7 +240,7 @@ looking {m = m} space pc g =
     rw (
       lookup-is m space pc (1023 - n + n) (omega (arith, g .lists .last)),
       g .lists .cells (bucket space pc) (bucket-lt space pc),
-      walk-up m (Index.key-at m space pc) (1023 - n) n (head (bucket space pc) (g .es))
+      walk-up m (Index.block-at m space pc) (1023 - n) n (head (bucket space pc) (g .es))
           (head-le (bucket space pc) (g .es)),
     )
     (finds m space pc (g .views) (g .lists .rows))

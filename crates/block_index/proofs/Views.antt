@@ -1,6 +1,6 @@
 -- The blocks of the model in the list of what was placed, and what the operations make of both. Assumes nothing.
 use mathlib.Core.Path.{_≡_, refl, ap}
-use mathlib.Core.Bool.{Bool, true, false, cond, _||_}
+use mathlib.Core.Bool.{Bool, true, false, cond, _&&_, _||_, and-true, and-false}
 use mathlib.Core.List.{List, [], _∷_, map}
 use Prim.Native.Nat.{ℕ, zero, suc, _-_, _^_, _≤_, _<_}
 use native.Mathlib.Omega.{arith}
@@ -15,7 +15,7 @@ use Rattle.block_log.proofs.Tests.{by-test}
 use Rattle.rules.specs.Refusals as Refusals
 use Rattle.block_index.specs.Model as Model
 use Rattle.block_index.specs.Model.{Block, end, overlap, without}
-use Rattle.block_index.specs.Index.{key-at, found-at, reinserted}
+use Rattle.block_index.specs.Index.{block-at, found-at, reinserted}
 use Rattle.block_index.specs.History.{All, Holds}
 use Rattle.block_index.proofs.Chains.{Rows, head, Reinserts, reinsert-none, reinsert-one, walk-step, sweep}
 
@@ -72,15 +72,24 @@ module _ {size : ℕ} {store : List ℕ} where
   -- ---- lookup
 
   pub finds : (m : List ℕ) (space pc : ℕ) {es : List Entry} {bs : List Block} → Views size store es bs → Rows m es
-      → found-at m (walk m (key-at m space pc) (length es) (head (bucket space pc) es)) ≡ Model.lookup bs space pc
+      → found-at m (walk m (block-at m space pc) (length es) (head (bucket space pc) es)) ≡ Model.lookup bs space pc
   unfolding walk
   finds m space pc none r = refl
   finds m space pc (dead {x = x} {xs = xs} z v) r =
-      rw (walk-step m space pc x xs r, eq-eqb (x .length) 0 z) (finds m space pc v (r .2))
+      rw (
+        walk-step m space pc x xs r,
+        eq-eqb (x .length) 0 z,
+        and-false (eqb (x .space) space && eqb (x .pc) pc),
+      )
+      (finds m space pc v (r .2))
   finds m space pc (live {xs = xs} {b = b} {bs = bs} f v) r =
-      rw (walk-step m space pc (entry-of b) xs r, ne-eqb (length (b .code)) 0 (λ e. omega (arith, f .some)))
+      rw (
+        walk-step m space pc (entry-of b) xs r,
+        ne-eqb (length (b .code)) 0 (λ e. omega (arith, f .some)),
+        and-true (eqb (b .space) space && eqb (b .pc) pc),
+      )
       (by-test (λ (t : Bool). found-at m
-      (cond t (suc (length xs)) (walk m (key-at m space pc) (length xs) (head (bucket space pc) xs)))
+      (cond t (suc (length xs)) (walk m (block-at m space pc) (length xs) (head (bucket space pc) xs)))
       ≡ cond t (Model.found b) (Model.lookup bs space pc))
       (Model.has-key space pc b) (λ q. found-at-is m (length xs) b (r .0)) (λ q. finds m space pc v (r .2)))
 

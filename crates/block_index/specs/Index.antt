@@ -1,6 +1,6 @@
 -- What each operation of the index does to its bytes and the store's, for any bytes. specs/Log.antt of block_log has the layout.
 use Prim.Native.Nat.{ℕ, zero, suc, _+_, _-_}
-use mathlib.Core.Bool.{Bool, cond, _&&_, _||_}
+use mathlib.Core.Bool.{Bool, cond, not, _&&_, _||_}
 use mathlib.Core.List.{List}
 use lib.Dec.{eqb, ltb}
 use lib.ListN.{length}
@@ -18,9 +18,13 @@ use Rattle.block_index.specs.declared.Found.{Found}
 abbrev pub key-at : List ℕ → ℕ → ℕ → ℕ → Bool
 key-at m space pc p = eqb (space-at m p) space && eqb (pc-at m p) pc
 
+-- whether the block under a key stands at a slot; a tombstone is no block, in whatever chain
+abbrev pub block-at : List ℕ → ℕ → ℕ → ℕ → Bool
+block-at m space pc p = key-at m space pc p && not (tombstone m p)
+
 -- the slot of the block under a key, 0 where there is none
 abbrev pub slot-of : List ℕ → ℕ → ℕ → ℕ
-slot-of m space pc = walk m (key-at m space pc) (slots - 1) (cell m (bucket space pc))
+slot-of m space pc = walk m (block-at m space pc) (slots - 1) (cell m (bucket space pc))
 
 abbrev pub found-at : List ℕ → ℕ → Found
 found-at m p =

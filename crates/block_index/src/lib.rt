@@ -35,6 +35,17 @@ fn key_at(m: &[u8], space: u64, pc: u64, p: u16) -> bool
     block_log::pc_at(m, p) == pc
 }
 
+// Whether the block under a key stands at a slot.
+fn block_at(m: &[u8], space: u64, pc: u64, p: u16) -> bool
+    requires { ⌜ (length (now m) ≡ L.index-bytes) × (p < L.slots) ⌝ }
+    ensures { λ r. ⌜ r ≡ I.block-at (now (m .entry)) space pc p ⌝ }
+{
+    if key_at(m, space, pc, p) {
+        return block_log::length_at(m, p) != 0;
+    }
+    false
+}
+
 // The slot of the block under a key, 0 where there is none. In a log that the calls made, the slots of a chain fall.
 fn slot_of(m: &[u8], space: u64, pc: u64) -> u16
     requires { ⌜ length (now m) ≡ L.index-bytes ⌝ }
@@ -42,7 +53,7 @@ fn slot_of(m: &[u8], space: u64, pc: u64) -> u16
 {
     let mut p = block_log::cell(m, block_log::bucket(space, pc));
     while p != 0 {
-        if key_at(m, space, pc, p) {
+        if block_at(m, space, pc, p) {
             return p;
         }
         let next = block_log::next_at(m, p);

@@ -460,3 +460,33 @@ fn other_bytes() {
     }
     assert!(found > 50 && missed > 1_000 && placed > 500, "{found} {missed} {placed}");
 }
+
+/// An index as version 0.1.0 left it after 900 placings in a store of 2,048 bytes, with the store and what it answered for
+/// 128 keys. Its chains still lead to slots whose blocks were dropped.
+#[test]
+fn of_an_earlier_version() {
+    let (bytes, rest) = include_bytes!("data/index_0_1_0.bin").split_first_chunk().unwrap();
+    let (store, answers) = rest.split_at(2_048);
+    let mut index = Index::from_saved(bytes, store.into());
+    let number = |bytes: &[u8]| bytes.iter().rev().fold(0, |n, &byte| n << 8 | u64::from(byte));
+    let mut kept = vec![];
+    for row in answers.chunks_exact(26) {
+        let key = Key { space: number(&row[..8]), pc: number(&row[8..16]) };
+        let (start, length) = (number(&row[17..21]) as usize, number(&row[21..25]) as usize);
+        let code = &store[start..][..length];
+        let expected = (row[16] == 0).then_some(Found { start, code, count: row[25] });
+        assert_eq!(index.get(key), expected, "{key:x?}");
+        kept.extend(expected.map(|found| (key, found)));
+    }
+    assert_eq!(kept.len(), 44);
+    // It goes on: what is placed is found, and the others are as they were or dropped.
+    for n in 0..600_u32 {
+        let (key, code) = (Key { space: 5, pc: n.into() }, n.to_le_bytes().repeat(9));
+        let start = index.place(key, n as u8, &code).unwrap();
+        assert_eq!(index.get(key), Some(Found { start, code: &code, count: n as u8 }));
+        kept.retain(|&(key, found)| {
+            index.get(key).inspect(|&now| assert_eq!(now, found)).is_some()
+        });
+    }
+    assert!(kept.is_empty());
+}
