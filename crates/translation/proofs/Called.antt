@@ -238,7 +238,8 @@ module _ (h : Host) (hm : h .«memory_helper» < 2 ^ 64) (h32 : h .helper32 < 2 
 
     slot-holds : (n : ℕ) → 1 ≤ n → n < 32 → load 8 (saved .mem) (place s o n) ≡ getD (g .hart .x) n 0
     slot-holds n pn hn =
-        load-other 8 (goes .0) (cell s) (reg passed 30) (place s o n) (omega (arith, at-cell)) (rw (goes .2 .size) (omega (arith, ε .inside n hn))) (slot-apart n hn (σ .apart n hn))
+        load-other 8 (goes .0) (cell s) (reg passed 30) (place s o n) (omega (arith, at-cell))
+        (rw (goes .2 .size) (omega (arith, ε .inside n hn))) (slot-apart n hn (σ .apart n hn))
         ∙ goes .2 .holds n pn hn
         ∙ ap (λ (l : List ℕ). getD l n 0) (ap (λ (z : Model). z .slots) u-is ∙ a .fine .slots v ∙ y .slots)
 
@@ -305,11 +306,12 @@ module _ (h : Host) (hm : h .«memory_helper» < 2 ^ 64) (h32 : h .helper32 < 2 
 
     to-call : (address budget : ℕ) → length (A64.words block) ≤ budget
         → A64.run (A64.words block) address budget 0 s ≡ A64.ran End.Called (suc (length ws)) (at-call address)
-    to-call address budget hl = rw block-is (calls-helper (bs ++ (ret ∷ [])) address budget (omega (arith, hl, length-is)))
+    to-call address budget hl =
+        rw block-is (calls-helper (bs ++ (ret ∷ [])) address budget (omega (arith, hl, length-is)))
 
     -- what `returns` asks of a helper can be met: one that changes nothing
     pub idle : (address budget : ℕ) → length (A64.words block) ≤ budget
-        → Left (A64.run (A64.words block) address budget 0 s .state) (A64.run (A64.words block) address budget 0 s .state)
+        → let c = A64.run (A64.words block) address budget 0 s .state in Left c c
     idle address budget hl =
         rw (to-call address budget hl)
         (record {

@@ -123,7 +123,12 @@ module _ (o : ℕ) (s : State) (x : List ℕ) (ε : Entry o s x) where
   pub begins : o ≤ max-slot-offset → o % 8 ≡ 0 → (cs : List Call) → T (all-fit true cs) → AllIn cs → Begun o s x cs
   begins ho h8 cs fit range =
       let g = calls-go (place s o) (s .mem) (s .base) (s .sp) o (reg s) apart ho at even cs true (entered s x) (s .mem) fit range kept
-      (record { size = refl; count = count; holds = λ n pn hn. sym (same n pn ∙ ε .starts n pn hn); outside = λ j o. refl })
+      (record {
+        size = refl;
+        count = count;
+        holds = λ n pn hn. sym (same n pn ∙ ε .starts n pn hn);
+        outside = λ j o. refl;
+      })
       in
       (g .0, subst (λ (z : State). Straight (words o cs) z (real (s .base) (s .sp) (calls-run cs (entered s x)) (g .0))) entry (g .1), g .2)
     where

@@ -93,7 +93,8 @@ module _ (o : ℕ) (ho : o ≤ max-slot-offset) where
       let e : ldr-x d 0 (reg-off o n) / 32 ≡ ldr-x 0 0 o / 32 = omega arith in
       let r : ldr-x d 0 (reg-off o n) % 32 ≡ d = omega arith in
       rw (eq-eqb (ldr-x d 0 (reg-off o n) / 32) (ldr-x 0 0 o / 32) e, r)
-  load-same d n hd hn false q = rw (ne-eqb (ldr-x d 0 (reg-off o n) / 32) (ldr-x 0 0 o / 32) (λ e. omega (arith, eqb-false n 0 q)))
+  load-same d n hd hn false q =
+      rw (ne-eqb (ldr-x d 0 (reg-off o n) / 32) (ldr-x 0 0 o / 32) (λ e. omega (arith, eqb-false n 0 q)))
 
   call-as : (c : Call) → Plain c → As (call-words product o c) (call-words rust o c)
   call-as (emit w) s = s
@@ -104,7 +105,8 @@ module _ (o : ℕ) (ho : o ≤ max-slot-offset) where
   pub calls-as : (cs : List Call) → AllPlain cs → As (words-in product o cs) (words-in rust o cs)
   unfolding words-in flatten
   calls-as [] s = (tt, refl)
-  calls-as (c ∷ cs) s = append-as (call-words product o c) (call-words rust o c) _ _ (call-as c (s .0)) (calls-as cs (s .1))
+  calls-as (c ∷ cs) s =
+      append-as (call-words product o c) (call-words rust o c) _ _ (call-as c (s .0)) (calls-as cs (s .1))
 
   pub plain-append : (cs ds : List Call) → AllPlain cs → AllPlain ds → AllPlain (cs ++ ds)
   plain-append [] ds s t = t
@@ -195,11 +197,13 @@ module _ (h : Host) (hm : h .«memory_helper» < 2 ^ 64) (h32 : h .helper32 < 2 
   block-plain : Follow (reg blank) pc h guest W zeros g → AllPlain o ho (block-calls W)
   block-plain (inl y) =
       rw (block-is W (y .free))
-      (plain-append o ho (walk-calls W) _ (all-fit-plain o ho true (walk-calls W) (y .fit) (y .range)) (omega arith, (below o ho _ (omega arith), tt)))
+      (plain-append o ho (walk-calls W) _ (all-fit-plain o ho true (walk-calls W) (y .fit) (y .range))
+      (omega arith, (below o ho _ (omega arith), tt)))
   block-plain (inr y) = helper-plain (y .stop)
 
   -- the product's words are those of the Rust's code, each LDR from slot 0 read as MOVZ with 0
   pub as-rust : words-in product o (block-calls W) ≡ map (without-slot-0 o) (A64.words (block-of rust h W .code))
   as-rust =
-      let p = calls-as o ho (block-calls W) (block-plain (block-walks h pc limit guest hb hp he (reg blank) zeros kept-zeros)) in
+      let w = block-walks h pc limit guest hb hp he (reg blank) zeros kept-zeros in
+      let p = calls-as o ho (block-calls W) (block-plain w) in
       rw (words-bytes _ (p .0)) (p .1)

@@ -84,7 +84,8 @@ module _ (h : Host) (pc limit : ℕ) (guest out : List ℕ) (hb : Bytes guest) (
     block : refuses h guest pc limit ≡ false
     is : translate h guest pc limit out ≡ accepted (block-of product h W) (end-kind f (W .stop)) out
 
-  block-is : compile-native-block product max-instrs h guest pc (limit-at f limit) ≡ cond (refuses h guest pc limit) none (some (block-of product h W))
+  block-is : compile-native-block product max-instrs h guest pc (limit-at f limit)
+      ≡ cond (refuses h guest pc limit) none (some (block-of product h W))
   block-is = no-block-with-fence product (max-instrs - 1) h guest pc limit hp
 
   -- no refusal's
@@ -92,10 +93,12 @@ module _ (h : Host) (pc limit : ℕ) (guest out : List ℕ) (hb : Bytes guest) (
   Unrefused r = (n : ℕ) → 1 ≤ n → r ≡ refused n out → ⊥
 
   by : (a t s : Bool) → bad-slot-offset (h .«slot_offset») ≡ a → refuses h guest pc limit ≡ t
-      → ltb (length out) (length (block-of product h W .code)) ≡ s → Unrefused (translate h guest pc limit out) → Accepted
+      → ltb (length out) (length (block-of product h W .code)) ≡ s → Unrefused (translate h guest pc limit out)
+      → Accepted
   unfolding translate of-block
   by true t s p q r z = absurd (z 1 (omega arith) (rw p refl))
-  by false true s p q r z = absurd (z (no-block guest pc limit) (some-refusal guest pc limit) (rw (p, block-is, q) refl))
+  by false true s p q r z =
+      absurd (z (no-block guest pc limit) (some-refusal guest pc limit) (rw (p, block-is, q) refl))
   by false false true p q r z = absurd (z 6 (omega arith) (rw (p, block-is, q, r) refl))
   by false false false p q r z = record { offset = p; block = q; is = rw (p, block-is, q, r) refl }
 
@@ -151,9 +154,10 @@ module _ (h : Host) (pc limit : ℕ) (guest out : List ℕ) (hb : Bytes guest) (
       → RustBlock h guest pc limit (take (r .answer .length) (r .output)) (r .answer .count)
   translated-rust hm h32 h16 hl r e k =
       let z : Unrefused r = λ n l q. omega (arith, ap (λ (r : Result). r .answer .refusal) q) in
+      let o = offset r e z in
       record {
         native = block-of rust h W;
         is = no-block-with-fence rust (max-instrs - 1) h guest pc limit hp ∙ rw (a r e z .block) refl;
         counts = sym (ap (λ (r : Result). r .answer .count) (r-is r e z));
-        same = code r e z ∙ ap bytes (as-rust h hm h32 h16 pc limit guest hb hl hp (even r e z) (offset r e z .1) (offset r e z .0));
+        same = code r e z ∙ ap bytes (as-rust h hm h32 h16 pc limit guest hb hl hp (even r e z) (o .1) (o .0));
       }

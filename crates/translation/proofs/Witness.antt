@@ -1,6 +1,6 @@
--- The premises of demand 3 and of helper blocks can be met: zeros in every register and in 512 bytes of memory, the slots
--- in the first 256, the stack at the end. That a helper can leave a state by `Left` is `idle` in Called.antt. And slot 0 is
--- among the memory that stays. Assumes nothing.
+-- The premises of demand 3 and of helper blocks can be met: zeros in every register and in 512 bytes of memory, slots in
+-- the first 256, the stack at the end (`idle` in Called.antt: what a helper may leave). Slot 0 is among the memory that
+-- stays. Assumes nothing.
 use mathlib.Core.Path.{_≡_, refl}
 use mathlib.Core.Bool.{false}
 use mathlib.Core.List.{List}
@@ -61,7 +61,8 @@ stack =
 
 module _ (o : ℕ) (s : State) (x : List ℕ) (ε : Entry o s x) (i : ℕ) (hi : i < 8) where
   slot-0-outside : Outside s o (place s o 0 + i)
-  slot-0-outside n pn hn = ⊎-elim (λ l. inr (omega arith)) (λ l. inl (omega arith)) (apart o s x ε .apart 0 n (omega arith) hn (λ e. omega arith))
+  slot-0-outside n pn hn =
+      ⊎-elim (λ l. inr (omega arith)) (λ l. inl (omega arith)) (apart o s x ε .apart 0 n (omega arith) hn (λ e. omega arith))
 
   slot-0-beside : Stack o s → Beside s (place s o 0 + i)
   slot-0-beside σ =

@@ -102,7 +102,7 @@ pub record Stack (offset : ℕ) (s : State) : Type 0 where
 abbrev pub Beside : State → ℕ → Type 0
 Beside s j = (j < cell s) ⊎ (cell s + 16 ≤ j)
 
--- ---- behind the call
+-- ---- after the call
 
 -- a state t that the helper may leave, where it was called in the state c: all but SP and the saved X30 is its own
 pub record Left (c t : State) : Type 0 where

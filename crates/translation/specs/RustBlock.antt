@@ -13,7 +13,8 @@ use Rattle.emit_native.specs.Calls.{rust}
 use Rattle.jit_arm64.specs.Block.{Block, compile-native-block}
 use Rattle.jit_arm64.specs.Fence.{fence, limit-at}
 
--- the Rust's block, of at most 64 instructions; one with FENCE.I at the limit that FENCE.I leaves (document 02, No. 3)
+-- the Rust's block, at most 64 instructions; up to FENCE.I, where there is one: its count is the limit (document 02,
+-- No. 3)
 abbrev pub rust-block : Host → List ℕ → ℕ → ℕ → Option Block
 rust-block h guest pc limit = compile-native-block rust 64 h guest pc (limit-at (fence 64 h guest pc limit) limit)
 

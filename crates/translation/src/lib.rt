@@ -1,5 +1,5 @@
-// Operation Translate with demands 2 and 3: a block's words are the Rust's, and what they do to the slots is what the ISA
-// does to the guest's registers; the same up to a helper's call and after it (document 02, No. 5).
+// Operation Translate with demands 2 and 3: a block's words are the Rust's, and what they do to the slots is what the
+// ISA does to the guest's registers; the same up to a helper's call and after it (document 02, No. 5).
 ghost use mathlib.Core.Path.{_≡_};
 ghost use lib.ListN.{take};
 ghost use Rattle.translator.specs.Translate.{result, translate};
