@@ -1,5 +1,6 @@
 -- The word writers of `A64Emitter` in hart.rs, carried over with its constants and shifts: `<< k` is * 2 ^ k, `>> k` is / 2 ^ k, `& mask` is %, and
--- `|` of fields that share no bit is +. Nothing here is from the Arm manual; proofs/Writing.antt shows that each word is the manual's.
+-- `|` of fields that share no bit is +. Nothing here is from the Arm manual; crates/translation/proofs/Writing.antt
+-- shows that each word is the manual's.
 use Prim.Native.Nat.{ℕ, _+_, _*_, _/_, _%_, _^_}
 use mathlib.Core.Bool.{cond}
 use mathlib.Core.List.{List, [], _∷_, _++_}
