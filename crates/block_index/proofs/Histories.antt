@@ -2,7 +2,7 @@
 use mathlib.Core.Path.{_≡_, refl, sym, ap, _∙_}
 use mathlib.Core.Bool.{Bool, false, cond, _&&_, true≢false}
 use mathlib.Core.List.{List, [], _∷_, map}
-use Prim.Native.Nat.{ℕ, suc, _+_, _-_, _^_, _≤_, _<_}
+use Prim.Native.Nat.{ℕ, suc, _+_, _-_, _*_, _^_, _≤_, _<_}
 use native.Mathlib.Omega.{arith}
 use lib.Dec.{ltb}
 use lib.ListN.{length, take, drop, length-map, length-take}
@@ -110,10 +110,10 @@ fitting size bs n h =
 abbrev Roomy : ℕ → List ℕ → List ℕ → List Block → Type 0
 Roomy size m store bs = (es : List Entry) × Lists m es × Views size store es bs × (length es < 1023)
 
-compacts : (size : ℕ) (m store : List ℕ) (es : List Entry) (bs : List Block) → size < 2 ^ 64 → length bs < 1023 → Lists m es → Views size store es bs
-    → Roomy size (compacted m) store bs
-compacts size m store es bs h k g v =
-    by-eqb (λ (t : Bool). Roomy size (cond t (Index.reinserted (emptied m) (used m) 1) m) store bs) (used m) 1023
+compacts : (most size : ℕ) (m store : List ℕ) (es : List Entry) (bs : List Block) → most < 1023 → size < 2 ^ 64
+    → length bs < 1023 → Lists m es → Views size store es bs → Roomy size (compacted most m) store bs
+compacts most size m store es bs s h k g v =
+    by-ltb (λ (t : Bool). Roomy size (cond t (Index.reinserted (emptied m) (used m) 1) m) store bs) most (used m)
     (λ q. (
       map entry-of bs,
       rw (g .last)
@@ -122,6 +122,11 @@ compacts size m store es bs h k g v =
       rw (length-map bs entry-of) k,
     ))
     (λ q. (es, g, v, omega (arith, g .last)))
+
+slack-lt : (entries room : ℕ) → Index.slack entries room < 1023
+slack-lt entries room =
+    by-ltb (λ (t : Bool). cond t (2 * (entries - room) + 62) 1022 < 1023) (entries - room) 480 (λ q. omega arith)
+    (λ q. omega arith)
 
 -- ---- placing
 
@@ -159,13 +164,15 @@ module _ {entries size : ℕ} {m store : List ℕ} {bs : List Block} (some : (1 
       } in
       let v : Views size store′ (sweep (entry-of new) (entries - 1) (g .es)) (take (entries - 1) kept-bs) =
       stays new (kept size store new (g .long) f) (entries - 1) (g .views) in
-      let c = compacts size (Index.swept m (entry-of new) (entries - 1) (used m)) store′
-      (sweep (entry-of new) (entries - 1) (g .es)) (take (entries - 1) kept-bs) (g .small)
+      let room = Index.room-left m (entry-of new) (entries - 1) (used m) in
+      let most = Index.slack entries room in
+      let c = compacts most size (Index.swept m (entry-of new) (entries - 1) (used m)) store′
+      (sweep (entry-of new) (entries - 1) (g .es)) (take (entries - 1) kept-bs) (slack-lt entries room) (g .small)
       (rw (length-take (entries - 1) kept-bs) (omega arith))
       (sweeping m (entry-of new) (entries - 1) (g .es) (g .lists)) v in
       rw (roomy entries kept-bs (some .0) n) record {
         es = entry-of new ∷ c .0;
-        lists = pushing (compacted (Index.swept m (entry-of new) (entries - 1) (used m))) (c .0) (entry-of new)
+        lists = pushing (compacted most (Index.swept m (entry-of new) (entries - 1) (used m))) (c .0) (entry-of new)
             (c .1) (c .3) a (fits (g .small) fine);
         views = live fine (c .2);
         top = a;

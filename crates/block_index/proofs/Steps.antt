@@ -10,7 +10,7 @@ use borrow.Author.Tests.{eq-eqb, ne-eqb, lt-ltb, le-ltb, ltb-false}
 use Rattle.block_log.specs.declared.Entry.{Entry}
 use Rattle.block_log.specs.Log.{used, start-at, length-at, count-at}
 use Rattle.block_log.proofs.Tests.{by-eqb, by-ltb}
-use Rattle.block_index.specs.Index.{slot-of, found-at, lookup, last-end, start-for, overlap-at, swept-at, room-at, swept, reinserted-at, reinserted, result, placed-at, place}
+use Rattle.block_index.specs.Index.{slot-of, found-at, lookup, last-end, start-for, overlap-at, swept-at, room-at, swept, room-left, reinserted-at, reinserted, result, placed-at, place}
 use Rattle.block_index.specs.Model as Model
 use Rattle.block_index.specs.declared.Found.{Found}
 
@@ -78,6 +78,12 @@ module _ (m : List ℕ) (start end p s : ℕ) (es : s ≡ start-at m p) (h : s <
   overlap-after l el k =
       rw (← es, ← el, lt-ltb s end h)
       (by-ltb (λ (t : Bool). ltb (start - s) l ≡ t) start (s + l) (λ q. lt-ltb (start - s) l (omega arith)) (λ q. le-ltb (start - s) l (omega arith)))
+
+pub room-left-step : (m : List ℕ) (e : Entry) (room p : ℕ) → (p ≡ 0 → ⊥)
+    → room-left m e room p ≡ room-left (swept-at m e room p) e (room-at m e room p) (p - 1)
+unfolding room-left
+room-left-step m e room zero h = absurd (h refl)
+room-left-step m e room (suc k) h = let z : suc k - 1 ≡ k = omega arith in rw z
 
 pub swept-step : (m : List ℕ) (e : Entry) (room p : ℕ) → (p ≡ 0 → ⊥)
     → swept m e room p ≡ swept (swept-at m e room p) e (room-at m e room p) (p - 1)

@@ -1,5 +1,5 @@
 -- What each operation of the index does to its bytes and the store's, for any bytes. specs/Log.antt of block_log has the layout.
-use Prim.Native.Nat.{ℕ, zero, suc, _+_, _-_}
+use Prim.Native.Nat.{ℕ, zero, suc, _+_, _-_, _*_}
 use mathlib.Core.Bool.{Bool, cond, not, _&&_, _||_}
 use mathlib.Core.List.{List}
 use lib.Dec.{eqb, ltb}
@@ -67,6 +67,15 @@ unfoldable pub swept : List ℕ → Entry → ℕ → ℕ → List ℕ
 swept m e room zero = m
 swept m e room (suc k) = swept (swept-at m e room (suc k)) e (room-at m e room (suc k)) k
 
+-- for how many others there is room then
+unfoldable pub room-left : List ℕ → Entry → ℕ → ℕ → ℕ
+room-left m e room zero = room
+room-left m e room (suc k) = room-left (swept-at m e room (suc k)) e (room-at m e room (suc k)) k
+
+-- the slots that may be used before the blocks move together: twice the blocks, and a few
+abbrev pub slack : ℕ → ℕ → ℕ
+slack entries room = cond (ltb (entries - room) 480) (2 * (entries - room) + 62) 1022
+
 -- the block of a slot, pushed again
 abbrev pub reinserted-at : List ℕ → ℕ → List ℕ
 reinserted-at m p = cond (tombstone m p) m (pushed m (entry-at m p))
@@ -77,13 +86,14 @@ unfolding pushed
 reinserted m zero p = m
 reinserted m (suc k) p = reinserted (reinserted-at m p) k (p + 1)
 
--- a log with its last slot used moves together
-abbrev pub compacted : List ℕ → List ℕ
-compacted m = cond (eqb (used m) (slots - 1)) (reinserted (emptied m) (used m) 1) m
+-- a log with more than so many slots used moves together
+abbrev pub compacted : ℕ → List ℕ → List ℕ
+compacted most m = cond (ltb most (used m)) (reinserted (emptied m) (used m) 1) m
 
 -- the new block after those that stay
 abbrev pub placed : ℕ → List ℕ → Entry → List ℕ
-placed entries m e = pushed (compacted (swept m e (entries - 1) (used m))) e
+placed entries m e =
+    pushed (compacted (slack entries (room-left m e (entries - 1) (used m))) (swept m e (entries - 1) (used m))) e
 
 -- the operation's answer, the index and the store afterwards
 pub record Result : Type 0 where
@@ -101,7 +111,7 @@ placed-at m store space pc count code at =
     (splice store at code)
 
 unfoldable pub place : List ℕ → List ℕ → ℕ → ℕ → ℕ → List ℕ → Result
-unfolding swept reinserted
+unfolding swept room-left reinserted
 place m store space pc count code =
     cond (Model.refused (length store) (length code)) (result (record { refusal = Refusals.code-length; start = 0 }) m store)
     (placed-at m store space pc count code (start-for m (length store) (length code)))

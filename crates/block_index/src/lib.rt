@@ -178,10 +178,10 @@ fn sweep_at(m: &mut [u8], e: Entry, room: u64, p: u16) -> u64
     room - 1
 }
 
-// Drops the blocks that are evicted, from the last slot to the first.
-fn sweep(m: &mut [u8], e: Entry, room: u64)
+// Drops the blocks that are evicted, from the last slot to the first; for how many others there is room then.
+fn sweep(m: &mut [u8], e: Entry, room: u64) -> u64
     requires { ⌜ (length (now m) ≡ L.index-bytes) × (e .start + e .length < 2 ^ 64) ⌝ }
-    ensures { λ r. ⌜ now (m .exit) ≡ I.swept (now (m .entry)) e room (L.used (now (m .entry))) ⌝ }
+    ensures { λ r. ⌜ (now (m .exit) ≡ I.swept (now (m .entry)) e room (L.used (now (m .entry)))) × (r ≡ I.room-left (now (m .entry)) e room (L.used (now (m .entry)))) ⌝ }
 {
     let mut room = room;
     let mut p = block_log::used(m);
@@ -189,6 +189,7 @@ fn sweep(m: &mut [u8], e: Entry, room: u64)
         room = sweep_at(m, e, room, p);
         p -= 1;
     }
+    room
 }
 
 // Pushes the block of a slot again, if it has one.
@@ -217,12 +218,26 @@ fn compact(m: &mut [u8])
     }
 }
 
-// Moves the blocks of a log together where its last slot is used.
-fn make_room(m: &mut [u8])
-    requires { ⌜ length (now m) ≡ L.index-bytes ⌝ }
-    ensures { λ r. ⌜ now (m .exit) ≡ I.compacted (now (m .entry)) ⌝ }
+// The slots that may be used before the blocks move together: twice the blocks, and a few.
+fn slack(entries: u64, room: u64) -> u16
+    ensures { λ r. ⌜ (r ≡ I.slack entries room) × (r < 1023) ⌝ }
 {
-    if block_log::used(m) != block_log::SLOTS - 1 {
+    if entries <= room {
+        return 62;
+    }
+    let blocks = entries - room;
+    if blocks < 480 {
+        return (2 * blocks + 62) as u16;
+    }
+    1022
+}
+
+// Moves the blocks of a log together where more than so many slots are used.
+fn make_room(m: &mut [u8], most: u16)
+    requires { ⌜ length (now m) ≡ L.index-bytes ⌝ }
+    ensures { λ r. ⌜ now (m .exit) ≡ I.compacted most (now (m .entry)) ⌝ }
+{
+    if block_log::used(m) <= most {
         return;
     }
     compact(m);
@@ -233,8 +248,8 @@ pub fn insert(m: &mut [u8], entries: u64, e: Entry)
     requires { ⌜ (length (now m) ≡ L.index-bytes) × (1 ≤ entries) × (e .start + e .length < 2 ^ 64) ⌝ }
     ensures { λ r. ⌜ now (m .exit) ≡ I.placed entries (now (m .entry)) e ⌝ }
 {
-    sweep(m, e, entries - 1);
-    make_room(m);
+    let room = sweep(m, e, entries - 1);
+    make_room(m, slack(entries, room));
     block_log::push(m, e);
 }
 

@@ -1,6 +1,6 @@
 //! A plain index of the library's design, with native numbers: a log of slots, linked from the cells of a hash table.
-//! The slot of a block that is dropped leaves its chain at once, and stays in the log, with length 0, until the log is full
-//! and the others move together.
+//! The slot of a block that is dropped leaves its chain at once. It stays in the log, with length 0, until more than twice
+//! as many slots are used as there are blocks, and a few; then the others move together.
 
 use crate::index_model::Key;
 
@@ -68,8 +68,8 @@ impl PlainIndex {
             return None;
         }
         let start = self.start(length, store.len());
-        self.sweep(key, start, start + length);
-        if self.used == SLOTS - 1 {
+        let others = self.sweep(key, start, start + length);
+        if self.used > (2 * (others + 1) + 62).min(SLOTS - 2) {
             self.compact();
         }
         self.push(Slot { key, start, length, next: 0, count });
@@ -104,8 +104,8 @@ impl PlainIndex {
         }
     }
 
-    /// Drops the block under the key, those that share a byte, and the oldest beyond 511.
-    fn sweep(&mut self, key: Key, start: usize, end: usize) {
+    /// Drops the block under the key, those that share a byte, and the oldest beyond 511; how many others stay.
+    fn sweep(&mut self, key: Key, start: usize, end: usize) -> usize {
         let mut room = ENTRIES - 1;
         let mut evicted = |slot: &Slot| {
             if slot.length == 0 {
@@ -123,6 +123,7 @@ impl PlainIndex {
             self.drop_at(before + 1);
             last = before;
         }
+        ENTRIES - 1 - room
     }
 
     fn drop_at(&mut self, p: usize) {

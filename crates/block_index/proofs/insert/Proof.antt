@@ -7,7 +7,9 @@ returns c =
     rw (
       c .before .before .push .ensures,
       c .before .before .before .before .before .before .make-room .ensures,
-      c .before .before .before .before .before .before .before .before .before .before .sweep .ensures,
+      c .before .before .before .before .before .before .before .slack .ensures .0,
+      c .before .before .before .before .before .before .before .before .before .before .before .sweep .ensures .0,
+      c .before .before .before .before .before .before .before .before .before .before .before .sweep .ensures .1,
     )
 
 pub insert-spec : {M : Type 1} → statement M
@@ -15,6 +17,7 @@ insert-spec =
     tie.close
     (tie.spec
     (λ c. search needs)
+    (λ c κs. search needs)
     (λ c κs. search needs)
     (λ c κs. search needs)
     (λ c κs. search needs)
