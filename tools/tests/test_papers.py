@@ -176,12 +176,12 @@ class Papers(TreeTest):
     # ---- prose
 
     def test_long_sentence(self):
-        self.write("docs/landings/01.md", "First.\n\n- " + 20 * "a b " + "\n\n- " + 20 * "a b\n" + "c.\n")
-        self.reports("docs/landings/01.md:5: a sentence of 41 words: a b a b a b ..")
+        self.write("docs/landings/01.md", "First.\n\n- " + 17 * "a b " + "c\n\n- " + 18 * "a b\n" + ".\n")
+        self.reports("docs/landings/01.md:5: a sentence of 37 words: a b a b a b ..")
 
     def test_sentences_end_at_marks(self):
-        self.write("machines/README.md", 40 * "a\n" + "b; " + 39 * "a\n" + "b: c\n")
-        self.reports("machines/README.md:1: a sentence of 41 words: a a a a a a ..")
+        self.write("machines/README.md", 35 * "a\n" + "b; " + 34 * "a\n" + "b: c\n")
+        self.reports("machines/README.md:1: a sentence of 36 words: a a a a a a ..")
 
     def test_long_line(self):
         self.write("rust/one/README.md", 120 * "x" + "\n" + 121 * "x" + "\n")
