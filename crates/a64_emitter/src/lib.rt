@@ -4,18 +4,25 @@ ghost use Prim.Native.Nat.{ℕ, _+_, _<_, _≤_, min};
 ghost use mathlib.Core.List.{[], _∷_};
 ghost use lib.ListN.{length, take};
 ghost use Rattle.le.specs.Le.{store};
-ghost use Rattle.a64_emitter.specs.Parts.{held, block-words, emitted-in, emitted, emitted-if, Added, Written};
+ghost use Rattle.a64_emitter.specs.Parts.{held, block-words, short-block-words, emitted-in, emitted, emitted-if, constant-if, Added, Copied, Written};
 ghost use Rattle.a64_emitter.specs.Writers as Writers;
-ghost use Rattle.rules.specs.Limits.{instr-words, max-words};
+ghost use Rattle.rules.specs.Limits.{instr-words, short-words, max-words};
 
 mod writers;
 
 use rules::INSTR_WORDS;
 use rules::MAX_WORDS;
+use rules::SHORT_WORDS;
 
 // The words of a block, with their count.
 pub struct A64Emitter {
     pub words: [u32; MAX_WORDS],
+    pub len: usize,
+}
+
+// The same with less room: a block's words go here first, and where it is full the walk goes on in an `A64Emitter`.
+pub struct ShortEmitter {
+    pub words: [u32; SHORT_WORDS],
     pub len: usize,
 }
 
@@ -25,12 +32,13 @@ pub struct InstrEmitter {
     pub len: usize,
 }
 
+// ---- on a lent array of any length, once for the three emitters
+
 // One word after the first `at`, or nothing where it does not fit; the new count.
-fn emit_at(words: &mut [u32; INSTR_WORDS], at: usize, w: u32) -> usize
-    requires { ⌜ length (now words) ≡ instr-words ⌝ }
-    ensures { λ r. ⌜ Added instr-words (now (words .entry)) at (now (words .exit)) r (w ∷ []) ⌝ }
+fn emit_at(words: &mut [u32], at: usize, w: u32) -> usize
+    ensures { λ r. ⌜ Added (length (now (words .entry))) (now (words .entry)) at (now (words .exit)) r (w ∷ []) ⌝ }
 {
-    if at < INSTR_WORDS {
+    if at < words.len() {
         words[at] = w;
         return at + 1;
     }
@@ -38,9 +46,8 @@ fn emit_at(words: &mut [u32; INSTR_WORDS], at: usize, w: u32) -> usize
 }
 
 // The same where the test holds.
-fn emit_at_if(words: &mut [u32; INSTR_WORDS], at: usize, test: bool, w: u32) -> usize
-    requires { ⌜ length (now words) ≡ instr-words ⌝ }
-    ensures { λ r. ⌜ Added instr-words (now (words .entry)) at (now (words .exit)) r (emitted-if «test» w) ⌝ }
+fn emit_at_if(words: &mut [u32], at: usize, test: bool, w: u32) -> usize
+    ensures { λ r. ⌜ Added (length (now (words .entry))) (now (words .entry)) at (now (words .exit)) r (emitted-if «test» w) ⌝ }
 {
     if test {
         return emit_at(words, at, w);
@@ -49,9 +56,9 @@ fn emit_at_if(words: &mut [u32; INSTR_WORDS], at: usize, test: bool, w: u32) -> 
 }
 
 // MOVK of halfword hw, where it is not 0.
-fn upper_at(words: &mut [u32; INSTR_WORDS], at: usize, rd: u8, hw: u8, p: u32) -> usize
-    requires { ⌜ (length (now words) ≡ instr-words) × (rd < 32) × (hw < 4) × (p < 65536) ⌝ }
-    ensures { λ r. ⌜ Added instr-words (now (words .entry)) at (now (words .exit)) r (Writers.movk rd hw p) ⌝ }
+fn upper_at(words: &mut [u32], at: usize, rd: u8, hw: u8, p: u32) -> usize
+    requires { ⌜ (rd < 32) × (hw < 4) × (p < 65536) ⌝ }
+    ensures { λ r. ⌜ Added (length (now (words .entry))) (now (words .entry)) at (now (words .exit)) r (Writers.movk rd hw p) ⌝ }
 {
     if p == 0 {
         at
@@ -72,22 +79,33 @@ fn upper_count(p: u32) -> usize
 }
 
 // A constant after the first `at`, or nothing where its words do not all fit; the new count.
-fn mov_imm64_at(words: &mut [u32; INSTR_WORDS], at: usize, rd: u8, val: u64) -> usize
-    requires { ⌜ (length (now words) ≡ instr-words) × (rd < 32) ⌝ }
-    ensures { λ r. ⌜ Added instr-words (now (words .entry)) at (now (words .exit)) r (Writers.mov-imm64 rd val) ⌝ }
+fn mov_imm64_at(words: &mut [u32], at: usize, rd: u8, val: u64) -> usize
+    requires { ⌜ (4 ≤ length (now words)) × (rd < 32) ⌝ }
+    ensures { λ r. ⌜ Added (length (now (words .entry))) (now (words .entry)) at (now (words .exit)) r (Writers.mov-imm64 rd val) ⌝ }
 {
     let lo = (val % 0x1_0000) as u32;
     let p1 = (val / 0x1_0000 % 0x1_0000) as u32;
     let p2 = (val / 0x1_0000_0000 % 0x1_0000) as u32;
     let p3 = (val / 0x1_0000_0000_0000 % 0x1_0000) as u32;
     let n = 1 + upper_count(p1) + upper_count(p2) + upper_count(p3);
-    if INSTR_WORDS - n < at {
+    if words.len() - n < at {
         return at;
     }
     let a = emit_at(words, at, A64Emitter::movz(rd, lo));
     let b = upper_at(words, a, rd, 1, p1);
     let c = upper_at(words, b, rd, 2, p2);
     upper_at(words, c, rd, 3, p3)
+}
+
+// The same where the test holds.
+fn mov_imm64_at_if(words: &mut [u32], at: usize, test: bool, rd: u8, val: u64) -> usize
+    requires { ⌜ (4 ≤ length (now words)) × (rd < 32) ⌝ }
+    ensures { λ r. ⌜ Added (length (now (words .entry))) (now (words .entry)) at (now (words .exit)) r (constant-if «test» rd val) ⌝ }
+{
+    if test {
+        return mov_imm64_at(words, at, rd, val);
+    }
+    at
 }
 
 // How many words an instruction's emitter holds: its count, or all where that is more.
@@ -104,31 +122,43 @@ fn block_count(len: usize) -> usize
     if len < MAX_WORDS { len } else { MAX_WORDS }
 }
 
-// An instruction's words after the first `at` of a block, or nothing where they do not all fit; the new count.
-// The array is lent: the block's loop calls this for each instruction.
-pub fn append_at(
-    words: &mut [u32; MAX_WORDS],
-    at: usize,
-    part: &[u32; INSTR_WORDS],
-    len: usize,
-) -> usize
-    requires { ⌜ (length (now words) ≡ max-words) × (length (now part) ≡ instr-words) ⌝ }
-    ensures { λ r. ⌜ Added max-words (now (words .entry)) at (now (words .exit)) r (take len (now (part .entry))) ⌝ }
+// And of a short one's.
+fn short_count(len: usize) -> usize
+    ensures { λ r. ⌜ r ≡ min len short-words ⌝ }
+{
+    if len < SHORT_WORDS { len } else { SHORT_WORDS }
+}
+
+// An instruction's words after the first `at` of a block, where there is room for its whole array: all of that is moved, and
+// `len` of its words count. The block's array is lent: its loop calls this for each instruction.
+pub fn append_at(words: &mut [u32], at: usize, part: &[u32; INSTR_WORDS], len: usize) -> usize
+    requires { ⌜ (at + instr-words ≤ length (now words)) × (length (now part) ≡ instr-words) ⌝ }
+    ensures { λ r. ⌜ Added (length (now (words .entry))) (now (words .entry)) at (now (words .exit)) r (take len (now (part .entry))) ⌝ }
 {
     // as of C.NOP
     if len == 0 {
         return at;
     }
     let n = instr_count(len);
-    if MAX_WORDS - n < at {
-        return at;
-    }
+    let part = *part;
     let mut i = 0;
-    while i < n {
+    while i < INSTR_WORDS {
         words[at + i] = part[i];
         i += 1;
     }
     at + n
+}
+
+// The first `len` words of another block's array, copied to the front of this one's.
+pub fn copy_front(words: &mut [u32], from: &[u32], len: usize)
+    requires { ⌜ (len ≤ length (now words)) × (len ≤ length (now from)) ⌝ }
+    ensures { λ r. ⌜ Copied (now (from .entry)) len (length (now (words .entry))) (now (words .exit)) ⌝ }
+{
+    let mut i = 0;
+    while i < len {
+        words[i] = from[i];
+        i += 1;
+    }
 }
 
 // One word as bytes, lowest first.
@@ -140,6 +170,20 @@ fn write_word(out: &mut [u8], at: usize, w: u32)
     out[at + 1] = (w / 0x100 % 256) as u8;
     out[at + 2] = (w / 0x1_0000 % 256) as u8;
     out[at + 3] = (w / 0x100_0000 % 256) as u8;
+}
+
+fn instr_word(words: &mut [u32; INSTR_WORDS], at: usize, test: bool, w: u32) -> usize
+    requires { ⌜ length (now words) ≡ instr-words ⌝ }
+    ensures { λ r. ⌜ Added instr-words (now (words .entry)) at (now (words .exit)) r (emitted-if «test» w) ⌝ }
+{
+    emit_at_if(words, at, test, w)
+}
+
+fn instr_constant(words: &mut [u32; INSTR_WORDS], at: usize, rd: u8, val: u64) -> usize
+    requires { ⌜ (length (now words) ≡ instr-words) × (rd < 32) ⌝ }
+    ensures { λ r. ⌜ Added instr-words (now (words .entry)) at (now (words .exit)) r (Writers.mov-imm64 rd val) ⌝ }
+{
+    mov_imm64_at(words, at, rd, val)
 }
 
 impl InstrEmitter {
@@ -157,7 +201,7 @@ impl InstrEmitter {
         ensures { λ r. ⌜ held r ≡ emitted (held self) (w ∷ []) ⌝ }
     {
         let at = self.len;
-        let n = emit_at(&mut self.words, at, w);
+        let n = instr_word(&mut self.words, at, true, w);
         self.len = n;
         self
     }
@@ -167,7 +211,7 @@ impl InstrEmitter {
         ensures { λ r. ⌜ held r ≡ emitted (held self) (emitted-if «test» w) ⌝ }
     {
         let at = self.len;
-        let n = emit_at_if(&mut self.words, at, test, w);
+        let n = instr_word(&mut self.words, at, test, w);
         self.len = n;
         self
     }
@@ -178,10 +222,86 @@ impl InstrEmitter {
         ensures { λ r. ⌜ held r ≡ emitted (held self) (Writers.mov-imm64 rd val) ⌝ }
     {
         let at = self.len;
-        let n = mov_imm64_at(&mut self.words, at, rd, val);
+        let n = instr_constant(&mut self.words, at, rd, val);
         self.len = n;
         self
     }
+}
+
+fn short_word(words: &mut [u32; SHORT_WORDS], at: usize, test: bool, w: u32) -> usize
+    requires { ⌜ length (now words) ≡ short-words ⌝ }
+    ensures { λ r. ⌜ Added short-words (now (words .entry)) at (now (words .exit)) r (emitted-if «test» w) ⌝ }
+{
+    emit_at_if(words, at, test, w)
+}
+
+fn short_constant(words: &mut [u32; SHORT_WORDS], at: usize, test: bool, rd: u8, val: u64) -> usize
+    requires { ⌜ (length (now words) ≡ short-words) × (rd < 32) ⌝ }
+    ensures { λ r. ⌜ Added short-words (now (words .entry)) at (now (words .exit)) r (constant-if «test» rd val) ⌝ }
+{
+    mov_imm64_at_if(words, at, test, rd, val)
+}
+
+impl ShortEmitter {
+    pub fn new() -> Self
+        ensures { λ r. ⌜ short-block-words r ≡ [] ⌝ }
+    {
+        ShortEmitter {
+            words: [0u32; SHORT_WORDS],
+            len: 0,
+        }
+    }
+
+    // One word more where the test holds, or unchanged where it does not or the word does not fit.
+    pub fn emit_if(mut self, test: bool, w: u32) -> Self
+        ensures { λ r. ⌜ short-block-words r ≡ emitted-in short-words (short-block-words self) (emitted-if «test» w) ⌝ }
+    {
+        let at = self.len;
+        let n = short_word(&mut self.words, at, test, w);
+        self.len = n;
+        self
+    }
+
+    // A constant more where the test holds, or unchanged where it does not or the constant's words do not all fit.
+    pub fn mov_imm64_if(mut self, test: bool, rd: u8, val: u64) -> Self
+        requires { ⌜ rd < 32 ⌝ }
+        ensures { λ r. ⌜ short-block-words r ≡ emitted-in short-words (short-block-words self) (constant-if «test» rd val) ⌝ }
+    {
+        let at = self.len;
+        let n = short_constant(&mut self.words, at, test, rd, val);
+        self.len = n;
+        self
+    }
+
+    // The words as bytes at the front of `out`, where they fit; how many bytes they are.
+    pub fn finish(self, out: &mut [u8]) -> usize
+        ensures { λ r. ⌜ Written (short-block-words self) (now (out .entry)) r (now (out .exit)) ⌝ }
+    {
+        let n = short_count(self.len);
+        if out.len() < 4 * n {
+            return 4 * n;
+        }
+        let mut i = 0;
+        while i < n {
+            write_word(out, 4 * i, self.words[i]);
+            i += 1;
+        }
+        4 * n
+    }
+}
+
+fn long_word(words: &mut [u32; MAX_WORDS], at: usize, test: bool, w: u32) -> usize
+    requires { ⌜ length (now words) ≡ max-words ⌝ }
+    ensures { λ r. ⌜ Added max-words (now (words .entry)) at (now (words .exit)) r (emitted-if «test» w) ⌝ }
+{
+    emit_at_if(words, at, test, w)
+}
+
+fn long_constant(words: &mut [u32; MAX_WORDS], at: usize, test: bool, rd: u8, val: u64) -> usize
+    requires { ⌜ (length (now words) ≡ max-words) × (rd < 32) ⌝ }
+    ensures { λ r. ⌜ Added max-words (now (words .entry)) at (now (words .exit)) r (constant-if «test» rd val) ⌝ }
+{
+    mov_imm64_at_if(words, at, test, rd, val)
 }
 
 impl A64Emitter {
@@ -194,37 +314,23 @@ impl A64Emitter {
         }
     }
 
-    // The words of an instruction more, or unchanged where they do not all fit.
-    pub fn append(mut self, part: InstrEmitter) -> Self
-        ensures { λ r. ⌜ block-words r ≡ emitted-in max-words (block-words self) (held part) ⌝ }
+    // One word more where the test holds, or unchanged where it does not or the word does not fit.
+    pub fn emit_if(mut self, test: bool, w: u32) -> Self
+        ensures { λ r. ⌜ block-words r ≡ emitted-in max-words (block-words self) (emitted-if «test» w) ⌝ }
     {
         let at = self.len;
-        let n = append_at(&mut self.words, at, &part.words, part.len);
+        let n = long_word(&mut self.words, at, test, w);
         self.len = n;
         self
     }
 
-    // One word more, or unchanged where it does not fit.
-    pub fn emit(mut self, w: u32) -> Self
-        ensures { λ r. ⌜ block-words r ≡ emitted-in max-words (block-words self) (w ∷ []) ⌝ }
-    {
-        let at = self.len;
-        if at < MAX_WORDS {
-            self.words[at] = w;
-            self.len = at + 1;
-            return self;
-        }
-        self
-    }
-
-    // A constant more, or unchanged where its words do not all fit.
-    pub fn mov_imm64(mut self, rd: u8, val: u64) -> Self
+    // A constant more where the test holds, or unchanged where it does not or the constant's words do not all fit.
+    pub fn mov_imm64_if(mut self, test: bool, rd: u8, val: u64) -> Self
         requires { ⌜ rd < 32 ⌝ }
-        ensures { λ r. ⌜ block-words r ≡ emitted-in max-words (block-words self) (Writers.mov-imm64 rd val) ⌝ }
+        ensures { λ r. ⌜ block-words r ≡ emitted-in max-words (block-words self) (constant-if «test» rd val) ⌝ }
     {
-        let part = InstrEmitter::new().mov_imm64(rd, val);
         let at = self.len;
-        let n = append_at(&mut self.words, at, &part.words, part.len);
+        let n = long_constant(&mut self.words, at, test, rd, val);
         self.len = n;
         self
     }

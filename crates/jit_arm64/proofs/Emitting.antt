@@ -8,7 +8,7 @@ use mathlib.Core.List.{List, [], _∷_, _++_, append-assoc, append-nil, flatten}
 use lib.Dec.{eqb}
 use lib.ListN.{length, take, length-append, length-take}
 use borrow.Author.Tests.{eqb-true, eq-eqb, ne-eqb}
-use Rattle.rules.specs.Limits.{inline-words, instr-words, max-words}
+use Rattle.rules.specs.Limits.{inline-words, instr-words}
 use Rattle.a64_emitter.specs.Writers as Writers
 use Rattle.a64_emitter.specs.Parts.{held, Added}
 use Rattle.a64_emitter.proofs.Emission.{constant-length, movk-none, emitted-all-new, emitted-fits}
@@ -41,17 +41,17 @@ words-append slot-offset (c ∷ cs) ds =
 
 -- the words ws after the first n of l: then the first r of l′
 pub record Appended (l : List ℕ) (n : ℕ) (l′ : List ℕ) (r : ℕ) (ws : List ℕ) : Type 0 where
-  pub long : length l′ ≡ max-words
+  pub long : length l′ ≡ length l
   pub holds : take r l′ ≡ take n l ++ ws
   pub len : r ≡ n + length ws
 
 -- they all fit
-pub put : {l l′ : List ℕ} {n r : ℕ} {ws : List ℕ} → length l ≡ max-words → n + length ws ≤ max-words → Added max-words l n l′ r ws → Appended l n l′ r ws
-put {l} {l′} {n} {r} {ws} long room added =
-    let b : length (take n l) ≡ n = rw long at (length-take n l) ∙ (omega arith) in
-    let h : take r l′ ≡ take n l ++ ws = added .holds ∙ emitted-fits max-words (take n l) ws (omega arith) in
-    let k : min r max-words ≡ length (take n l) + length ws = sym (rw (added .long) at (length-take r l′)) ∙ ap length h ∙ length-append (take n l) ws in
-    let m : r ≤ max-words = added .room (omega arith) in
+pub put : {l l′ : List ℕ} {n r : ℕ} {ws : List ℕ} → n + length ws ≤ length l → Added (length l) l n l′ r ws → Appended l n l′ r ws
+put {l} {l′} {n} {r} {ws} room added =
+    let b : length (take n l) ≡ n = length-take n l ∙ (omega arith) in
+    let h : take r l′ ≡ take n l ++ ws = added .holds ∙ emitted-fits (length l) (take n l) ws (omega arith) in
+    let k : min r (length l) ≡ length (take n l) + length ws = sym (rw (added .long) at (length-take r l′)) ∙ ap length h ∙ length-append (take n l) ws in
+    let m : r ≤ length l = added .room (omega arith) in
     record { long = added .long; holds = h; len = omega arith }
 
 -- ---- the emitters by the width

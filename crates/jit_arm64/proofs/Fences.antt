@@ -14,10 +14,10 @@ use Rattle.emit_native.specs.declared.Host.{Host}
 use Rattle.emit_native.specs.Calls.{Dialect, continue}
 use Rattle.emit_native.proofs.Size.{by}
 use Rattle.instr32.specs.Instr32.{misc-mem, emit-native-instr}
-use Rattle.jit_arm64.specs.Block.{fetch, is-32, size-of, emit-native, Walk, walk, whole-walk, block-of, compile-native-block}
+use Rattle.jit_arm64.specs.Block.{fetch, is-missing, is-32, size-of, emit-native, Walk, walk, whole-walk, block-of, compile-native-block}
 use Rattle.jit_arm64.specs.Fence.{is-fence-i, fence-or, to-fence, fence, limit-at}
-use Rattle.jit_arm64.specs.Parts.{fence-walk}
-use Rattle.jit_arm64.proofs.Refusals.{refuses, no-block-is}
+use Rattle.jit_arm64.specs.Parts.{fence-walk, missed}
+use Rattle.jit_arm64.proofs.Refusals.{refuses, no-block-is, whole-why}
 
 pub fence-fields : (instr : ℕ) → is-fence-i instr ≡ true → (instr % 128 ≡ 0x0F) × (funct3 instr ≡ 1)
 fence-fields instr = opcode-by (eqb (instr % 128) 0x0F) refl
@@ -110,3 +110,10 @@ pub no-block-with-fence : (d : Dialect) (most : ℕ) (h : Host) (guest : List �
     ≡ cond (refuses h guest pc limit) none (some (block-of d h (fence-walk (suc most) h guest pc limit)))
 no-block-with-fence d most h guest pc limit l =
     no-block-is d most h guest pc (limit-at (fence (suc most) h guest pc limit) limit) l ∙ rw (same-zero (suc most) h guest pc limit) refl
+
+-- where nothing was counted, the stop says why
+pub none-why : (most : ℕ) (h : Host) (guest : List ℕ) (pc limit : ℕ) → pc < 2 ^ 64 → (limit ≡ 0 → ⊥) → fence-walk (suc most) h guest pc limit .count ≡ 0
+    → missed (fence-walk (suc most) h guest pc limit .stop) ≡ is-missing (fetch pc guest 0)
+none-why most h guest pc limit l z q =
+    whole-why most h guest pc (limit-at (fence (suc most) h guest pc limit) limit) l
+    (λ e. let t : eqb limit 0 ≡ true = sym (same-zero (suc most) h guest pc limit) ∙ eq-eqb _ 0 e in z (eqb-true limit 0 t)) q

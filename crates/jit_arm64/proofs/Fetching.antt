@@ -4,9 +4,6 @@ use native.Mathlib.Omega.{arith}
 use mathlib.Core.Path.{_≡_, refl, sym, _∙_, ap}
 use mathlib.Core.Option.{Option, none, some}
 use borrow.Author.Tests.{eq-eqb, ne-eqb}
-use Rattle.word.specs.Word.{add}
-use Rattle.fetch_window.specs.Parts.{index}
-use Rattle.fetch_window.proofs.Reading.{index-add}
 use Rattle.jit_arm64.specs.declared.fetch.Fetched.{Fetched}
 use Rattle.jit_arm64.specs.Block.{is-32, size-of}
 use Rattle.jit_arm64.specs.Parts.{fetched, FetchedOf}
@@ -41,7 +38,3 @@ pub is-some : (f : Option ℕ) (r : Fetched) → r ≡ fetched f → (r .size �
 unfolding fetched
 is-some none r e q = absurd (q (ap (λ (x : Fetched). x .size) e))
 is-some (some instr) r e q = (rw e refl, rw e refl)
-
--- the first instruction is at index 0
-pub first-at : (pc : ℕ) → pc < 2 ^ 64 → index pc pc ≡ 0
-first-at pc l = let e : add pc 0 ≡ pc = omega arith in rw e at (index-add pc 0 l (omega arith))

@@ -14,7 +14,7 @@ use Rattle.emit_native.specs.declared.EmitFlow.the-variants.{Continue, Terminat
 use Rattle.emit_native.specs.Calls.{Call, Dialect, Emission}
 use Rattle.emit_native.proofs.Size.{by}
 use Rattle.jit_arm64.specs.Block.{Walk, fetch, is-missing, size-of, helped, step, instr-walk, walk, whole-walk, block-of, compile-native-block}
-use Rattle.jit_arm64.specs.Parts.{neither, is-uncovered}
+use Rattle.jit_arm64.specs.Parts.{neither, is-uncovered, missed}
 
 -- the walk never counts less than it began with
 helped-count : (f : EmitFlow) (cs : List Call) (k pc : ℕ) → k ≤ helped f cs k pc .count
@@ -58,6 +58,39 @@ instr-first : (h : Host) (f : Option ℕ) (start : ℕ) (rest : ℕ → ℕ → 
 unfolding instr-walk is-missing is-uncovered
 instr-first h none start rest up = refl
 instr-first h (some instr) start rest up = step-first _ _ _ (size-of instr) start rest up
+
+-- and then the stop says which of the two
+helped-why : (f : EmitFlow) (cs : List Call) (pc : ℕ) → missed (helped f cs 0 pc .stop) ≡ false
+unfolding helped missed
+helped-why Continue cs pc = refl
+helped-why Terminate cs pc = refl
+helped-why None cs pc = refl
+
+step-why : (f : EmitFlow) (e helper : Emission) (n start : ℕ) (rest : ℕ → ℕ → Walk) → ((m j : ℕ) → m ≤ rest m j .count)
+    → step f e helper n start 0 0 rest .count ≡ 0 → missed (step f e helper n start 0 0 rest .stop) ≡ false
+unfolding step missed
+step-why Continue e helper n start rest up q = absurd (omega (arith, up 1 (0 + n), q))
+step-why Terminate e helper n start rest up q = refl
+step-why None e helper n start rest up q = helped-why (helper .flow) _ _
+
+instr-why : (h : Host) (f : Option ℕ) (start : ℕ) (rest : ℕ → ℕ → Walk) → ((m j : ℕ) → m ≤ rest m j .count)
+    → instr-walk h f start 0 0 rest .count ≡ 0 → missed (instr-walk h f start 0 0 rest .stop) ≡ is-missing f
+unfolding instr-walk is-missing missed
+instr-why h none start rest up q = refl
+instr-why h (some instr) start rest up q = step-why _ _ _ (size-of instr) start rest up q
+
+walk-why : (h : Host) (guest : List ℕ) (pc n : ℕ) → walk h guest pc (suc n) 0 0 .count ≡ 0 → missed (walk h guest pc (suc n) 0 0 .stop) ≡ is-missing (fetch (add pc 0) guest 0)
+unfolding walk
+walk-why h guest pc n q = instr-why h _ pc (walk h guest pc n) (walk-count h guest pc n) q
+
+pub whole-why : (most : ℕ) (h : Host) (guest : List ℕ) (pc limit : ℕ) → pc < 2 ^ 64 → (limit ≡ 0 → ⊥) → whole-walk (suc most) h guest pc limit .count ≡ 0
+    → missed (whole-walk (suc most) h guest pc limit .stop) ≡ is-missing (fetch pc guest 0)
+unfolding whole-walk
+whole-why most h guest pc zero l z q = absurd (z refl)
+whole-why most h guest pc (suc n) l z q =
+    let e : min (suc n) (suc most) ≡ suc (min n most) = omega arith in
+    let p : add pc 0 ≡ pc = omega arith in
+    rw e (walk-why h guest pc (min n most) (rw e at q)) ∙ ap (λ (x : ℕ). is-missing (fetch x guest 0)) p
 
 -- what is said of the first instruction
 abbrev pub first : Host → List ℕ → ℕ → Bool

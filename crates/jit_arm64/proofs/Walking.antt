@@ -2,11 +2,11 @@
 use Prim.Native.Nat.{ℕ, suc, _+_, _*_, _-_, _^_, _≤_, _<_, min}
 use native.Mathlib.Omega.{arith}
 use mathlib.Core.Path.{_≡_, refl, sym, ap, _∙_}
-use mathlib.Core.Bool.{Bool, true, false, cond}
+use mathlib.Core.Bool.{Bool, true, false, cond, true≢false}
 use mathlib.Core.Option.{none, some}
 use mathlib.Core.List.{List, [], _++_, append-assoc, append-nil, flatten}
 use lib.ListN.{length, take}
-use Rattle.rules.specs.Limits.{inline-words, instr-words, max-words, max-instrs}
+use Rattle.rules.specs.Limits.{inline-words, instr-words, end-words, max-instrs}
 use Rattle.word.specs.Word.{add}
 use Rattle.a64_emitter.specs.Parts.{held, Added}
 use Rattle.emit_native.specs.declared.EmitFlow.{EmitFlow}
@@ -20,31 +20,27 @@ use Rattle.fetch_window.proofs.Reading.{index-add}
 use Rattle.jit_arm64.specs.declared.fetch.Fetched.{Fetched}
 use Rattle.jit_arm64.specs.declared.block.Stop.{Stop}
 use Rattle.jit_arm64.specs.declared.block.Stop.the-variants.{Limit, Ended, Helper, Uncovered, NotFetched}
+use Rattle.jit_arm64.specs.declared.block.Walked.{Walked}
 use Rattle.jit_arm64.specs.Block.{is-32, size-of, emit-native, emit-term-helper, fetch, walked, in-front, helped, step, instr-walk, walk, whole-walk}
 use Rattle.jit_arm64.specs.Fence.{is-fence-i, fence-or, to-fence, fence}
-use Rattle.jit_arm64.specs.Parts.{FetchedOf, Compiled, fence-walk, is-fenced, end-room, Walks}
+use Rattle.jit_arm64.specs.Parts.{FetchedOf, Compiled, fence-walk, is-fenced, end-room, Walking, Walks, Onward}
 use Rattle.jit_arm64.proofs.Emitting.{Appended, put, words-append, words-size, Apart, native-size, native-apart, helped-size, uncovered-size}
 use Rattle.jit_arm64.proofs.Fetching.{is-none, is-some}
 use Rattle.jit_arm64.proofs.Refusals.{walk-count}
 use Rattle.jit_arm64.proofs.Fences.{fence-goes-on, unfenced, fenced}
 
--- len words of l are those of n instructions, and the next is at index i
-pub record Walking (h : Host) (guest : List ℕ) (start limit : ℕ) (l : List ℕ) (len i n : ℕ) : Type 0 where
-  pub calls : List Call
-  pub long : length l ≡ max-words
-  pub holds : take len l ≡ words (h .«slot_offset») calls
-  pub fits : start < 2 ^ 64
-  pub upto : n ≤ limit
-  pub near : i ≤ 4 * n
-  pub room : len ≤ inline-words * n
-  -- at every limit: the walk from here on, and the search for FENCE.I
-  pub same : (k : ℕ) → in-front calls (walk h guest start k n i) ≡ walk h guest start (n + k) 0 0
-  pub clear : (k : ℕ) → to-fence guest start k n i ≡ to-fence guest start (n + k) 0 0
-
-pub begin : (h : Host) (guest : List ℕ) (start limit : ℕ) (l : List ℕ) → length l ≡ max-words → start < 2 ^ 64 → Walking h guest start limit l 0 0 0
+pub begin : (h : Host) (guest : List ℕ) (start limit : ℕ) (l : List ℕ) → end-words ≤ length l → start < 2 ^ 64 → {len i n : ℕ} → len ≡ 0 → i ≡ 0 → n ≡ 0
+    → Walking h guest start limit l len i n
 unfolding words-in flatten
-begin h guest start limit l long fits =
-    record { calls = []; long = long; holds = refl; fits = fits; upto = omega arith; near = omega arith; room = omega arith; same = λ k. let z : 0 + k ≡ k = omega arith in rw z; clear = λ k. let z : 0 + k ≡ k = omega arith in rw z }
+begin h guest start limit l room fits a b c =
+    rw (a, b, c)
+    (record { calls = []; holds = refl; fits = fits; upto = omega arith; near = omega arith; few = omega arith; room = omega arith; same = λ k. let z : 0 + k ≡ k = omega arith in rw z; clear = λ k. let z : 0 + k ≡ k = omega arith in rw z })
+
+-- the same words in front of another array
+pub moved : {h : Host} {guest : List ℕ} {start limit : ℕ} {l : List ℕ} {len i n : ℕ} → Walking h guest start limit l len i n → (l′ : List ℕ) → take len l′ ≡ take len l
+    → len + end-words ≤ length l′ → Walking h guest start limit l′ len i n
+moved v l′ e room =
+    record { calls = v .calls; holds = e ∙ v .holds; fits = v .fits; upto = v .upto; near = v .near; few = v .few; room = room; same = v .same; clear = v .clear }
 
 -- a helper's emitter that did not take the instruction
 not-helped : (f : EmitFlow) (cs : List Call) (n pc : ℕ) → (f ≡ Terminate → ⊥) → helped f cs n pc ≡ walked cs n Uncovered pc
@@ -53,12 +49,15 @@ not-helped Continue cs n pc other = refl
 not-helped None cs n pc other = refl
 not-helped Terminate cs n pc other = absurd (other refl)
 
-module _ {h : Host} {guest : List ℕ} {start limit : ℕ} {l : List ℕ} {len i n : ℕ} (small : limit ≤ max-instrs)
-    (v : Walking h guest start limit l len i n) where
+-- a walk that ended, and one for which there was no room
+done : {h : Host} {guest : List ℕ} {start limit m k : ℕ} {l : List ℕ} {r : Walked} → length l ≡ m → k ≤ r .n → r .full ≡ false
+    → Walks (h .«slot_offset») start (fence-walk max-instrs h guest start limit) (fence max-instrs h guest start limit) l r → Onward h guest start limit m k l r
+done long more e w = record { long = long; more = more; whole = λ _. w; part = λ f. absurd (true≢false (sym f ∙ e)); never = λ _. e }
+
+module _ {h : Host} {guest : List ℕ} {start limit m k₀ : ℕ} {l : List ℕ} {len i n : ℕ} (small : limit ≤ max-instrs)
+    (v : Walking h guest start limit l len i n) (long : length l ≡ m) (more : k₀ ≤ n) where
   abbrev Done : List ℕ → ℕ → ℕ → ℕ → Stop → Bool → Type 0
-  Done l′ len′ i′ n′ why b =
-      Walks (h .«slot_offset») start (fence-walk max-instrs h guest start limit) (fence max-instrs h guest start limit) l′
-      (record { len = len′; i = i′; n = n′; stop = why; fence = b })
+  Done l′ len′ i′ n′ why b = Onward h guest start limit m k₀ l′ (record { len = len′; i = i′; n = n′; stop = why; fence = b; full = false })
 
   -- k instructions are left
   whole : (k : ℕ) → limit ≡ n + k → walk h guest start (n + k) 0 0 ≡ whole-walk max-instrs h guest start limit
@@ -70,11 +69,12 @@ module _ {h : Host} {guest : List ℕ} {start limit : ℕ} {l : List ℕ} {len i
   -- the walk ends with the calls cs; no FENCE.I is among its instructions
   ended : (cs : List Call) {l′ : List ℕ} {len′ : ℕ} (i′ n′ : ℕ) (why : Stop)
       → in-front (v .calls) (walked cs n′ why (add start i′)) ≡ whole-walk max-instrs h guest start limit → to-fence guest start n′ 0 0 ≡ none
-      → take len′ l′ ≡ words (h .«slot_offset») (v .calls ++ cs) → n′ ≤ max-instrs → length l′ ≡ max-words → len′ + end-room why ≤ max-words → Done l′ len′ i′ n′ why false
+      → take len′ l′ ≡ words (h .«slot_offset») (v .calls ++ cs) → n ≤ n′ → n′ ≤ max-instrs → length l′ ≡ length l → len′ + end-room why ≤ length l → Done l′ len′ i′ n′ why false
   unfolding is-fenced
-  ended cs i′ n′ why e clear holds few long room =
+  ended cs {l′} i′ n′ why e clear holds up few same room =
       let u = unfenced h guest start limit (sym e) clear in
-      rw (u .0, u .1) (record { holds = holds; count = refl; stop = refl; pc = refl; fence = refl; few = few; long = long; room = room })
+      done (same ∙ long) (omega arith) refl
+      (rw (u .0, u .1) (record { holds = holds; count = refl; stop = refl; pc = refl; fence = refl; few = few; room = rw same room }))
 
   bare : take len l ≡ words (h .«slot_offset») (v .calls ++ [])
   bare = v .holds ∙ ap (words (h .«slot_offset»)) (sym (append-nil (v .calls)))
@@ -88,10 +88,24 @@ module _ {h : Host} {guest : List ℕ} {start limit : ℕ} {l : List ℕ} {len i
   unfolding walk end-room
   at-limit q =
       let u = v .room in
-      ended [] i n Limit (v .same 0 ∙ whole 0 (omega arith)) none-yet bare (omega arith) (v .long) (omega arith)
+      ended [] i n Limit (v .same 0 ∙ whole 0 (omega arith)) none-yet bare (omega arith) (omega arith) refl (omega arith)
 
-  -- what was fetched at the PC
-  module _ (q : n ≡ limit → ⊥) {pc : ℕ} (at : pc ≡ add start i) {r : Fetched} (found : FetchedOf (fetch pc guest (index start pc)) r) where
+  -- no room for one more instruction and the end: never in the long emitter
+  pub filled : inline-words + end-words ≤ m → (n ≡ limit → ⊥) → m < len + (inline-words + end-words) → (why : Stop) (b : Bool)
+      → Onward h guest start limit m k₀ l (record { len = len; i = i; n = n; stop = why; fence = b; full = true })
+  filled z q f why b =
+      let u = v .upto in
+      let w = v .few in
+      record {
+        long = long;
+        more = more;
+        whole = λ e. absurd (true≢false e);
+        part = λ _. record { here = v; some = omega arith };
+        never = λ g. absurd (omega arith);
+      }
+
+  -- what was fetched at the PC, with room for an instruction
+  module _ (q : n ≡ limit → ⊥) (wide : len + (inline-words + end-words) ≤ length l) {pc : ℕ} (at : pc ≡ add start i) {r : Fetched} (found : FetchedOf (fetch pc guest (index start pc)) r) where
     here : index start pc ≡ i
     here =
         let u = v .upto in
@@ -109,8 +123,7 @@ module _ {h : Host} {guest : List ℕ} {start limit : ℕ} {l : List ℕ} {len i
     unfolding instr-walk end-room
     not-fetched z =
         let u = v .upto in
-        let m = v .room in
-        ended [] i n NotFetched (rw (is-none _ r (found .found) z) at (one (limit - suc n) ∙ whole _ left)) none-yet bare (omega arith) (v .long) (omega arith)
+        ended [] i n NotFetched (rw (is-none _ r (found .found) z) at (one (limit - suc n) ∙ whole _ left)) none-yet bare (omega arith) (omega arith) refl (omega arith)
 
     -- an instruction
     module _ (some-bytes : r .size ≡ 0 → ⊥) where
@@ -163,18 +176,15 @@ module _ {h : Host} {guest : List ℕ} {start limit : ℕ} {l : List ℕ} {len i
           (λ y. rw y at (sym (searched 0)))
 
       -- its words cs, appended
-      module _ (cs : List Call) {l′ : List ℕ} {len′ : ℕ} {ws : List ℕ} (alone : ws ≡ words (h .«slot_offset») cs) (added : Added max-words l len l′ len′ ws) where
+      module _ (cs : List Call) {l′ : List ℕ} {len′ : ℕ} {ws : List ℕ} (alone : ws ≡ words (h .«slot_offset») cs) (added : Added (length l) l len l′ len′ ws) where
         appended : length (words (h .«slot_offset») cs) ≤ instr-words → Appended l len l′ len′ (words (h .«slot_offset») cs)
-        appended few =
-            let u = v .upto in
-            let m = v .room in
-            put (v .long) (omega arith) (rw alone at added)
+        appended few = put (omega arith) (rw alone at added)
 
-        more : length (words (h .«slot_offset») cs) ≤ instr-words → take len′ l′ ≡ words (h .«slot_offset») (v .calls ++ cs)
-        more few = appended few .holds ∙ ap (λ (us : List ℕ). us ++ words (h .«slot_offset») cs) (v .holds) ∙ sym (words-append (h .«slot_offset») (v .calls) cs)
+        with : length (words (h .«slot_offset») cs) ≤ instr-words → take len′ l′ ≡ words (h .«slot_offset») (v .calls ++ cs)
+        with few = appended few .holds ∙ ap (λ (us : List ℕ). us ++ words (h .«slot_offset») cs) (v .holds) ∙ sym (words-append (h .«slot_offset») (v .calls) cs)
 
       -- inline words
-      module _ {out : Emitted} (c : Compiled (h .«slot_offset») (e .calls) (e .flow) out) {l′ : List ℕ} {len′ : ℕ} (added : Added max-words l len l′ len′ (held (out .em))) where
+      module _ {out : Emitted} (c : Compiled (h .«slot_offset») (e .calls) (e .flow) out) {l′ : List ℕ} {len′ : ℕ} (added : Added (length l) l len l′ len′ (held (out .em))) where
         few : length (words (h .«slot_offset») (e .calls)) ≤ inline-words
         few = omega (arith, words-size (h .«slot_offset») (e .calls), native-size (h .«slot_offset») h pc (r .instr))
 
@@ -183,7 +193,7 @@ module _ {h : Host} {guest : List ℕ} {start limit : ℕ} {l : List ℕ} {len i
         on t q′ =
             let u = v .upto in
             let f = v .near in
-            let m = v .room in
+            let m = v .few in
             let k = size-4 in
             let w = few in
             let a = appended (e .calls) (c .holds) added (omega arith) in
@@ -191,12 +201,12 @@ module _ {h : Host} {guest : List ℕ} {start limit : ℕ} {l : List ℕ} {len i
             let s : (j : ℕ) → suc n + j ≡ n + suc j = λ j. omega arith in
             record {
               calls = v .calls ++ e .calls;
-              long = a .long;
-              holds = more (e .calls) (c .holds) added (omega arith);
+              holds = with (e .calls) (c .holds) added (omega arith);
               fits = v .fits;
               upto = omega arith;
               near = omega arith;
-              room = omega arith;
+              few = omega arith;
+              room = let g = a .long in omega arith;
               same = λ j. rw (append-assoc, next, s j) (stepped Continue (sym (c .flow) ∙ t) j);
               clear = λ j. rw (next, s j) (rw q′ at (searched j));
             }
@@ -210,8 +220,8 @@ module _ {h : Host} {guest : List ℕ} {start limit : ℕ} {l : List ℕ} {len i
             let a = appended (e .calls) (c .holds) added (omega arith) in
             let p = a .len in
             let f : e .flow ≡ Terminate = sym (c .flow) ∙ t in
-            ended (e .calls) (i + r .size) (n + 1) Ended (rw next (ends Terminate f)) (none-here (λ z. let y : _≡_ {A = ℕ} 0 1 = cc in omega arith)) (more (e .calls) (c .holds) added (omega arith))
-            (omega arith) (a .long) (omega arith)
+            ended (e .calls) (i + r .size) (n + 1) Ended (rw next (ends Terminate f)) (none-here (λ z. let y : _≡_ {A = ℕ} 0 1 = cc in omega arith)) (with (e .calls) (c .holds) added (omega arith))
+            (omega arith) (omega arith) (a .long) (omega arith)
 
         -- FENCE.I: the walk at its own count as the limit
         pub by-fence : out .flow ≡ Continue → is-fence-i (r .instr) ≡ true → Done l′ len′ (i + r .size) (n + 1) Limit true
@@ -226,12 +236,13 @@ module _ {h : Host} {guest : List ℕ} {start limit : ℕ} {l : List ℕ} {len i
             let g = found-at f q′ in
             let one-more : suc n ≡ n + suc 0 = omega arith in
             let x = fenced h guest start limit (omega arith) g (ap (λ (j : ℕ). walk h guest start j 0 0) one-more ∙ sym (stepped Continue f 0)) in
-            rw (x, g)
-            (record { holds = more (e .calls) (c .holds) added (omega arith) ∙ rw (append-nil (e .calls)) refl; count = next; stop = refl; pc = refl; fence = refl; few = omega arith; long = a .long; room = omega arith })
+            done (a .long ∙ long) (omega arith) refl
+            (rw (x, g)
+            (record { holds = with (e .calls) (c .holds) added (omega arith) ∙ rw (append-nil (e .calls)) refl; count = next; stop = refl; pc = refl; fence = refl; few = omega arith; room = let z = a .long in omega arith }))
 
       -- what the inline emitter left, and the helper's words
       module _ {out left : Emitted} (i₀ : Compiled (h .«slot_offset») (e .calls) (e .flow) left) (none : left .flow ≡ None)
-          (c : Compiled (h .«slot_offset») (e .calls ++ helper .calls) (helper .flow) out) {l′ : List ℕ} {len′ : ℕ} (added : Added max-words l len l′ len′ (held (out .em))) where
+          (c : Compiled (h .«slot_offset») (e .calls ++ helper .calls) (helper .flow) out) {l′ : List ℕ} {len′ : ℕ} (added : Added (length l) l len l′ len′ (held (out .em))) where
         abbrev both : List Call
         both = e .calls ++ helper .calls
 
@@ -250,7 +261,7 @@ module _ {h : Host} {guest : List ℕ} {start limit : ℕ} {l : List ℕ} {len i
             omega (arith, words-size (h .«slot_offset») both, helped-size (h .«slot_offset») e helper (native-size (h .«slot_offset») h pc (r .instr)) apart) in
             let a = appended both (c .holds) added w in
             let p = a .len in
-            ended both i (n + 1) Helper (rw next (rw (sym (c .flow) ∙ t) at (ends None not-inline))) (none-here (λ z. let q : e .flow ≡ None = not-inline in let y : _≡_ {A = ℕ} 0 1 = cc in omega arith)) (more both (c .holds) added w) (omega arith) (a .long) (omega arith)
+            ended both i (n + 1) Helper (rw next (rw (sym (c .flow) ∙ t) at (ends None not-inline))) (none-here (λ z. let q : e .flow ≡ None = not-inline in let y : _≡_ {A = ℕ} 0 1 = cc in omega arith)) (with both (c .holds) added w) (omega arith) (omega arith) (a .long) (omega arith)
 
         pub uncovered : (out .flow ≡ Terminate → ⊥) → Done l′ len′ i n Uncovered false
         unfolding step end-room
@@ -262,5 +273,5 @@ module _ {h : Host} {guest : List ℕ} {start limit : ℕ} {l : List ℕ} {len i
             omega (arith, words-size (h .«slot_offset») both, uncovered-size (h .«slot_offset») e helper (native-size (h .«slot_offset») h pc (r .instr)) apart other) in
             let a = appended both (c .holds) added (omega arith) in
             let p = a .len in
-            ended both i n Uncovered (rw (not-helped (helper .flow) both n (add start i) other) at (ends None not-inline)) none-yet (more both (c .holds) added (omega arith))
-            (omega arith) (a .long) (omega arith)
+            ended both i n Uncovered (rw (not-helped (helper .flow) both n (add start i) other) at (ends None not-inline)) none-yet (with both (c .holds) added (omega arith))
+            (omega arith) (omega arith) (a .long) (omega arith)

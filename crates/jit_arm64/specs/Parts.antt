@@ -1,14 +1,13 @@
 -- What the functions of this crate promise one another; no operation's contract reaches it.
-use Prim.Native.Nat.{ℕ, _+_, _%_, _^_, _≤_, _<_}
+use Prim.Native.Nat.{ℕ, _+_, _*_, _%_, _^_, _≤_, _<_}
 use mathlib.Core.Bool.{Bool, true, false, cond}
 use mathlib.Core.List.{List}
 use mathlib.Core.Option.{Option, none, some}
 use mathlib.Core.Path.{_≡_}
 use lib.ListN.{length, take}
 use Rattle.word.specs.Word.{add}
-use Rattle.rules.specs.Limits.{end-words, max-words, max-instrs}
-use Rattle.a64_emitter.specs.Parts.{held, block-words}
-use Rattle.rules.specs.Refusals as Refusals
+use Rattle.rules.specs.Limits.{inline-words, end-words, max-words, max-instrs}
+use Rattle.a64_emitter.specs.Parts.{held, block-words, short-block-words}
 use Rattle.emit_native.specs.declared.Host.{Host}
 use Rattle.emit_native.specs.declared.EmitFlow.{EmitFlow}
 use Rattle.emit_native.specs.declared.EmitFlow.the-variants.{Continue, Terminate, None}
@@ -18,9 +17,10 @@ use Rattle.jit_arm64.specs.declared.fetch.Fetched.{Fetched}
 use Rattle.jit_arm64.specs.declared.block.Stop.{Stop}
 use Rattle.jit_arm64.specs.declared.block.Stop.the-variants.{Limit, Ended, Helper, Uncovered, NotFetched}
 use Rattle.jit_arm64.specs.declared.block.Walked.{Walked}
+use Rattle.jit_arm64.specs.declared.block.ShortBlock.{ShortBlock}
 use Rattle.jit_arm64.specs.declared.block.NativeBlock.{NativeBlock}
-use Rattle.jit_arm64.specs.Block.{fetch, is-missing, size-of, emit-native, emit-term-helper, Walk, whole-walk, block-calls}
-use Rattle.jit_arm64.specs.Fence.{fence, limit-at}
+use Rattle.jit_arm64.specs.Block.{size-of, emit-native, emit-term-helper, Walk, in-front, walk, whole-walk, block-calls}
+use Rattle.jit_arm64.specs.Fence.{to-fence, fence, limit-at}
 
 -- what was fetched, and its length in bytes; 0 for both where a halfword is missing
 unfoldable pub fetched : Option ℕ → Fetched
@@ -58,6 +58,39 @@ end-room Limit = end-words
 end-room Uncovered = end-words
 end-room NotFetched = end-words
 
+-- whether the end sets the next PC, and whether there is one
+unfoldable pub sets-next : Stop → Bool
+sets-next Helper = false
+sets-next Ended = false
+sets-next Limit = true
+sets-next Uncovered = true
+sets-next NotFetched = true
+
+unfoldable pub has-return : Stop → Bool
+has-return Helper = false
+has-return Ended = true
+has-return Limit = true
+has-return Uncovered = true
+has-return NotFetched = true
+
+-- len words of l are those of n instructions, and the next is at index i; there is room for the block's end
+pub record Walking (h : Host) (guest : List ℕ) (start limit : ℕ) (l : List ℕ) (len i n : ℕ) : Type 0 where
+  pub calls : List Call
+  pub holds : take len l ≡ words (h .«slot_offset») calls
+  pub fits : start < 2 ^ 64
+  pub upto : n ≤ limit
+  pub near : i ≤ 4 * n
+  pub few : len ≤ inline-words * n
+  pub room : len + end-words ≤ length l
+  -- at every limit: the walk from here on, and the search for FENCE.I
+  pub same : (k : ℕ) → in-front calls (walk h guest start k n i) ≡ walk h guest start (n + k) 0 0
+  pub clear : (k : ℕ) → to-fence guest start k n i ≡ to-fence guest start (n + k) 0 0
+
+-- the walk stopped with so many words of l because there was no room for one more instruction and the end
+pub record Partly (h : Host) (guest : List ℕ) (start limit : ℕ) (l : List ℕ) (r : Walked) : Type 0 where
+  pub here : Walking h guest start limit l (r .len) (r .i) (r .n)
+  pub some : 0 < r .n
+
 -- l holds the words of the walk w, which FENCE.I f ended, and has room for the block's end
 pub record Walks (slot-offset start : ℕ) (w : Walk) (f : Option ℕ) (l : List ℕ) (r : Walked) : Type 0 where
   pub holds : take (r .len) l ≡ words slot-offset (w .calls)
@@ -66,15 +99,32 @@ pub record Walks (slot-offset start : ℕ) (w : Walk) (f : Option ℕ) (l : List
   pub pc : add start (r .i) ≡ w .pc
   pub fence : r .fence ≡ is-fenced f
   pub few : r .n ≤ max-instrs
-  pub long : length l ≡ max-words
-  pub room : r .len + end-room (r .stop) ≤ max-words
+  pub room : r .len + end-room (r .stop) ≤ length l
 
--- the block's words
-pub record BlockOf (slot-offset : ℕ) (w : Walk) (f : Option ℕ) (r : NativeBlock) : Type 0 where
-  pub holds : block-words (r .em) ≡ words slot-offset (block-calls w)
-  pub count : r .count ≡ w .count
-  pub stop : r .stop ≡ w .stop
-  pub fence : r .fence ≡ is-fenced f
+-- the walk from instruction k on, in an array of m words, which is then l: to its end, or as far as there is room
+pub record Onward (h : Host) (guest : List ℕ) (start limit m k : ℕ) (l : List ℕ) (r : Walked) : Type 0 where
+  pub long : length l ≡ m
+  pub more : k ≤ r .n
+  pub whole : r .full ≡ false → Walks (h .«slot_offset») start (fence-walk max-instrs h guest start limit) (fence max-instrs h guest start limit) l r
+  pub part : r .full ≡ true → Partly h guest start limit l r
+  pub never : max-words ≤ m → r .full ≡ false
+
+-- the block's words ws
+pub record BlockOf (h : Host) (guest : List ℕ) (start limit : ℕ) (ws : List ℕ) (r : Walked) : Type 0 where
+  pub holds : ws ≡ words (h .«slot_offset») (block-calls (fence-walk max-instrs h guest start limit))
+  pub count : r .n ≡ fence-walk max-instrs h guest start limit .count
+  pub stop : r .stop ≡ fence-walk max-instrs h guest start limit .stop
+  pub fence : r .fence ≡ is-fenced (fence max-instrs h guest start limit)
+
+-- in the short emitter, or as far as there is room in it
+pub record ShortOf (h : Host) (guest : List ℕ) (start limit : ℕ) (r : ShortBlock) : Type 0 where
+  pub whole : r .done .full ≡ false → BlockOf h guest start limit (short-block-words (r .em)) (r .done)
+  pub part : r .done .full ≡ true → Partly h guest start limit (r .em .words) (r .done)
+
+-- in the long one
+pub record LongOf (h : Host) (guest : List ℕ) (start limit : ℕ) (r : NativeBlock) : Type 0 where
+  pub whole : BlockOf h guest start limit (block-words (r .em)) (r .done)
+  pub some : 0 < r .done .n
 
 -- ---- the first instruction
 
@@ -90,7 +140,10 @@ unfoldable pub is-uncovered : Host → ℕ → Option ℕ → Bool
 is-uncovered h pc none = false
 is-uncovered h pc (some instr) = neither ((emit-native h pc instr) .flow) ((emit-term-helper h pc instr 0) .flow)
 
--- its refusal, or 0
-abbrev pub first-refusal : Host → List ℕ → ℕ → ℕ
-first-refusal h guest pc =
-    cond (is-missing (fetch pc guest 0)) Refusals.not-fetched (cond (is-uncovered h pc (fetch pc guest 0)) Refusals.not-covered Refusals.accepted)
+-- a walk that counted nothing stopped because the first instruction lacks a halfword
+unfoldable pub missed : Stop → Bool
+missed NotFetched = true
+missed Limit = false
+missed Ended = false
+missed Helper = false
+missed Uncovered = false

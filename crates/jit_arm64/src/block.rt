@@ -1,23 +1,27 @@
 // `compile_native_block`: limit, alignment and fetch around the emitters. FENCE.I ends a block (document 02, No. 3).
 ghost use mathlib.Core.Path.{_≡_};
 ghost use mathlib.Core.List.{_++_};
-ghost use Prim.Native.Nat.{ℕ, _≤_, min};
+ghost use Prim.Native.Nat.{ℕ, _+_, _≤_, min};
+ghost use mathlib.Core.Bool.{false};
 ghost use lib.ListN.{length};
-ghost use Rattle.rules.specs.Limits.{max-instrs, max-words, max-slot-offset};
-ghost use Rattle.a64_emitter.specs.Parts.{held, emitted-all};
+ghost use Rattle.rules.specs.Limits.{inline-words, end-words, max-instrs, short-words, max-words, max-slot-offset};
+ghost use Rattle.a64_emitter.specs.Parts.{held, short-block-words, block-words, Copied};
 ghost use Rattle.emit_native.specs.Calls as Calls;
-ghost use Rattle.jit_arm64.specs.Block.{emit-native, emit-term-helper, return-calls, end-calls};
-ghost use Rattle.jit_arm64.specs.Fence.{is-fence-i, fence};
-ghost use Rattle.jit_arm64.specs.Parts.{Narrow, Compiled, Walks, BlockOf, fence-walk, first-refusal};
+ghost use Rattle.jit_arm64.specs.Block.{emit-native, emit-term-helper};
+ghost use Rattle.jit_arm64.specs.Fence.{is-fence-i};
+ghost use Rattle.jit_arm64.specs.Parts.{Narrow, Compiled, Walking, Onward, Partly, ShortOf, LongOf, sets-next, has-return};
 use crate::fetch::fetch;
 use a64_emitter::A64Emitter;
 use a64_emitter::InstrEmitter;
+use a64_emitter::ShortEmitter;
 use emit_native::EmitFlow;
 use emit_native::Emitted;
 use emit_native::Host;
+use rules::END_WORDS;
+use rules::INLINE_WORDS;
 use rules::MAX_INSTRS;
 use rules::MAX_WORDS;
-use rules::refusals;
+use rules::SHORT_WORDS;
 
 // Why the walk over the guest code stopped.
 pub enum Stop {
@@ -29,21 +33,25 @@ pub enum Stop {
 }
 
 // What the walk did: how many words there are, the index behind its last inline instruction, how many instructions, why
-// it stopped, and whether FENCE.I did that.
+// it stopped, whether FENCE.I did that, and whether there was no room for one more.
 pub struct Walked {
     pub len: usize,
     pub i: usize,
     pub n: u32,
     pub stop: Stop,
     pub fence: bool,
+    pub full: bool,
 }
 
-// The block's words, its count of instructions, why it ended, and whether FENCE.I ended it.
+// A block's words, and what the walk did; where the short emitter was full, the words so far are in front.
+pub struct ShortBlock {
+    pub em: ShortEmitter,
+    pub done: Walked,
+}
+
 pub struct NativeBlock {
     pub em: A64Emitter,
-    pub count: u32,
-    pub stop: Stop,
-    pub fence: bool,
+    pub done: Walked,
 }
 
 // The inline words of an instruction, by its width.
@@ -72,54 +80,29 @@ fn emit_term_helper(em: InstrEmitter, host: Host, pc: u64, instr: u32, emitted: 
     term_helper::emit_native_term_helper32(em, host, pc, instr, d, emitted)
 }
 
-// Refusal 4 or 5 where the first instruction lacks a halfword or is not covered, and else 0.
-pub fn first_refusal(guest: &[u8], pc: u64, host: Host) -> u32
-    requires { ⌜ host .«slot_offset» ≤ max-slot-offset ⌝ }
-    ensures { λ r. ⌜ r ≡ first-refusal host (now (guest .entry)) pc ⌝ }
+// Whether the end of a block sets the next PC, and whether there is an end.
+fn sets_next(stop: Stop) -> bool
+    ensures { λ r. ⌜ r ≡ sets-next stop ⌝ }
 {
-    let found = fetch(guest, pc, pc);
-    if found.size == 0 {
-        return refusals::NOT_FETCHED;
-    }
-    let out = emit_native(host, pc, found.instr);
-    let flow = out.flow;
-    if let EmitFlow::None = flow {
-        let left = out.em;
-        let helper = emit_term_helper(left, host, pc, found.instr, 0);
-        let taken = helper.flow;
-        if let EmitFlow::Terminate = taken {
-            return 0;
-        }
-        return refusals::NOT_COVERED;
-    }
-    0
-}
-
-// The count into X1, RET.
-fn emit_return(em: InstrEmitter, count: u32) -> InstrEmitter
-    ensures { λ r. ⌜ ((slot-offset : ℕ) → held r ≡ emitted-all (held em) (Calls.groups slot-offset (return-calls count))) ⌝ }
-{
-    let em = em.mov_imm64(1, count as u64);
-    em.emit(A64Emitter::ret())
-}
-
-// The end of a block, by why the walk stopped: none after a helper's call, and the next PC unless the last instruction set it.
-fn emit_end(stop: Stop, pc: u64, count: u32) -> InstrEmitter
-    requires { ⌜ count ≤ max-instrs ⌝ }
-    ensures { λ r. ⌜ ((slot-offset : ℕ) → held r ≡ Calls.words slot-offset (end-calls stop pc count)) ⌝ }
-{
-    let em = InstrEmitter::new();
     if let Stop::Helper = stop {
-        return em;
+        return false;
     }
     if let Stop::Ended = stop {
-        return emit_return(em, count);
+        return false;
     }
-    let em = em.mov_imm64(0, pc);
-    emit_return(em, count)
+    true
 }
 
-fn clamped(limit: u32) -> u32
+fn has_return(stop: Stop) -> bool
+    ensures { λ r. ⌜ r ≡ has-return stop ⌝ }
+{
+    if let Stop::Helper = stop {
+        return false;
+    }
+    true
+}
+
+pub fn clamped(limit: u32) -> u32
     ensures { λ r. ⌜ r ≡ min limit max-instrs ⌝ }
 {
     if limit < MAX_INSTRS {
@@ -136,8 +119,8 @@ fn is_fence_i(instr: u32) -> bool
     instr % 128 == isa::OPCODE_MISC_MEM && instr / 4096 % 8 == isa::F3_FENCE_I
 }
 
-fn stopped(len: usize, i: usize, n: u32, stop: Stop, fence: bool) -> Walked
-    ensures { λ r. ⌜ r ≡ record { len = len; i = i; n = n; stop = stop; fence = fence } ⌝ }
+fn stopped(len: usize, i: usize, n: u32, stop: Stop, fence: bool, full: bool) -> Walked
+    ensures { λ r. ⌜ r ≡ record { len = len; i = i; n = n; stop = stop; fence = fence; full = full } ⌝ }
 {
     Walked {
         len,
@@ -145,20 +128,41 @@ fn stopped(len: usize, i: usize, n: u32, stop: Stop, fence: bool) -> Walked
         n,
         stop,
         fence,
+        full,
     }
 }
 
-// The instructions from `start` on, at most `most` of them and none behind FENCE.I: each by itself, its words appended.
-fn walk(words: &mut [u32; MAX_WORDS], guest: &[u8], start: u64, most: u32, host: Host) -> Walked
-    requires { ⌜ (length (now words) ≡ max-words) × (host .«slot_offset» ≤ max-slot-offset) × (most ≤ max-instrs) ⌝ }
-    ensures { λ r. ⌜ Walks (host .«slot_offset») start (fence-walk max-instrs host (now (guest .entry)) start most) (fence max-instrs host (now (guest .entry)) start most) (now (words .exit)) r ⌝ }
+fn at_start() -> Walked
+    ensures { λ r. ⌜ (r .len ≡ 0) × (r .i ≡ 0) × (r .n ≡ 0) ⌝ }
 {
-    let mut len: usize = 0;
-    let mut i: usize = 0;
-    let mut n: u32 = 0;
+    Walked {
+        len: 0,
+        i: 0,
+        n: 0,
+        stop: Stop::Limit,
+        fence: false,
+        full: false,
+    }
+}
+
+// The instructions behind those of `from`, at most `most` in all and none behind FENCE.I: each by itself, its words appended,
+// until there is no room for one more and the end.
+fn walk(words: &mut [u32], guest: &[u8], start: u64, from: Walked, most: u32, host: Host) -> Walked
+    requires { ⌜ (inline-words + end-words ≤ length (now words)) × (host .«slot_offset» ≤ max-slot-offset) × (most ≤ max-instrs) × Walking host (now guest) start most (now words) (from .len) (from .i) (from .n) ⌝ }
+    ensures { λ r. ⌜ Onward host (now (guest .entry)) start most (length (now (words .entry))) (from .n) (now (words .exit)) r ⌝ }
+{
+    let mut len: usize = from.len;
+    let mut i: usize = from.i;
+    let mut n: u32 = from.n;
     let mut fence = false;
+    let mut full = false;
+    let room = words.len() - INLINE_WORDS - END_WORDS;
     let stop = loop {
         if n == most {
+            break Stop::Limit;
+        }
+        if room < len {
+            full = true;
             break Stop::Limit;
         }
         let pc = std::num::wrapping_add_u64(start, i as u64);
@@ -190,29 +194,82 @@ fn walk(words: &mut [u32; MAX_WORDS], guest: &[u8], start: u64, most: u32, host:
             break Stop::Limit;
         }
     };
-    stopped(len, i, n, stop, fence)
+    stopped(len, i, n, stop, fence, full)
 }
 
-// The block from `start` on: the words of its instructions, then its end.
-pub fn compile_native_block(guest: &[u8], start: u64, limit: u32, host: Host) -> NativeBlock
-    requires { ⌜ host .«slot_offset» ≤ max-slot-offset ⌝ }
-    ensures { λ r. ⌜ BlockOf (host .«slot_offset») (fence-walk max-instrs host (now (guest .entry)) start limit) (fence max-instrs host (now (guest .entry)) start limit) r ⌝ }
+fn walk_short(
+    words: &mut [u32; SHORT_WORDS],
+    guest: &[u8],
+    start: u64,
+    from: Walked,
+    most: u32,
+    host: Host,
+) -> Walked
+    requires { ⌜ (length (now words) ≡ short-words) × (host .«slot_offset» ≤ max-slot-offset) × (most ≤ max-instrs) × Walking host (now guest) start most (now words) (from .len) (from .i) (from .n) ⌝ }
+    ensures { λ r. ⌜ Onward host (now (guest .entry)) start most short-words (from .n) (now (words .exit)) r ⌝ }
 {
-    let most = clamped(limit);
-    let mut em = A64Emitter::new();
-    let done = walk(&mut em.words, guest, start, most, host);
+    walk(words, guest, start, from, most, host)
+}
+
+fn walk_long(
+    words: &mut [u32; MAX_WORDS],
+    guest: &[u8],
+    start: u64,
+    from: Walked,
+    most: u32,
+    host: Host,
+) -> Walked
+    requires { ⌜ (length (now words) ≡ max-words) × (host .«slot_offset» ≤ max-slot-offset) × (most ≤ max-instrs) × Walking host (now guest) start most (now words) (from .len) (from .i) (from .n) ⌝ }
+    ensures { λ r. ⌜ Onward host (now (guest .entry)) start most max-words (from .n) (now (words .exit)) r ⌝ }
+{
+    walk(words, guest, start, from, most, host)
+}
+
+fn move_long(words: &mut [u32; MAX_WORDS], from: &[u32; SHORT_WORDS], len: usize)
+    requires { ⌜ (length (now words) ≡ max-words) × (length (now from) ≡ short-words) × (len ≤ short-words) ⌝ }
+    ensures { λ r. ⌜ Copied (now (from .entry)) len max-words (now (words .exit)) ⌝ }
+{
+    a64_emitter::copy_front(words, from, len);
+}
+
+// The block from `start` on, of at most `most` instructions, in the short emitter: the words of its instructions, then its
+// end; or, where it is full, the words so far.
+pub fn compile_native_block(guest: &[u8], start: u64, most: u32, host: Host) -> ShortBlock
+    requires { ⌜ (host .«slot_offset» ≤ max-slot-offset) × (most ≤ max-instrs) ⌝ }
+    ensures { λ r. ⌜ ShortOf host (now (guest .entry)) start most r ⌝ }
+{
+    let mut em = ShortEmitter::new();
+    let from = at_start();
+    let done = walk_short(&mut em.words, guest, start, from, most, host);
     em.len = done.len;
     let stop = done.stop;
-    let end = emit_end(
-        stop,
-        std::num::wrapping_add_u64(start, done.i as u64),
-        done.n,
-    );
-    let em = em.append(end);
-    NativeBlock {
-        em,
-        count: done.n,
-        stop,
-        fence: done.fence,
-    }
+    let next = std::num::wrapping_add_u64(start, done.i as u64);
+    let em = em.mov_imm64_if(sets_next(stop), 0, next);
+    let em = em.mov_imm64_if(has_return(stop), 1, done.n as u64);
+    let em = em.emit_if(has_return(stop), A64Emitter::ret());
+    ShortBlock { em, done }
+}
+
+// The whole of a block whose words so far, `before`, filled the short emitter.
+pub fn continue_native_block(
+    before: &[u32; SHORT_WORDS],
+    from: Walked,
+    guest: &[u8],
+    start: u64,
+    most: u32,
+    host: Host,
+) -> NativeBlock
+    requires { ⌜ (length (now before) ≡ short-words) × (host .«slot_offset» ≤ max-slot-offset) × (most ≤ max-instrs) × Partly host (now guest) start most (now before) from ⌝ }
+    ensures { λ r. ⌜ LongOf host (now (guest .entry)) start most r ⌝ }
+{
+    let mut long = A64Emitter::new();
+    move_long(&mut long.words, before, from.len);
+    let done = walk_long(&mut long.words, guest, start, from, most, host);
+    long.len = done.len;
+    let stop = done.stop;
+    let after = std::num::wrapping_add_u64(start, done.i as u64);
+    let long = long.mov_imm64_if(sets_next(stop), 0, after);
+    let long = long.mov_imm64_if(has_return(stop), 1, done.n as u64);
+    let em = long.emit_if(has_return(stop), A64Emitter::ret());
+    NativeBlock { em, done }
 }

@@ -23,6 +23,13 @@ instr-words = helper-words
 abbrev pub max-words : ℕ
 max-words = max-instrs * inline-words + end-words
 
+-- of a block in the short emitter: room for so many instructions and an end
+abbrev pub short-instrs : ℕ
+short-instrs = 8
+
+abbrev pub short-words : ℕ
+short-words = short-instrs * inline-words + end-words
+
 -- refusal 1: the greatest slot offset. Slot 31 is then at the greatest offset of LDR and STR, 4,095 times 8
 abbrev pub max-slot-offset : ℕ
 max-slot-offset = 8 * (4095 - 31)

@@ -17,6 +17,11 @@ pub const INSTR_WORDS: usize = HELPER_WORDS;
 // Of a block.
 pub const MAX_WORDS: usize = MAX_INSTRS as usize * INLINE_WORDS + END_WORDS;
 
+// Of a block in the short emitter: room for so many instructions and an end.
+pub const SHORT_INSTRS: usize = 8;
+
+pub const SHORT_WORDS: usize = SHORT_INSTRS * INLINE_WORDS + END_WORDS;
+
 // The greatest slot offset (refusal 1): slot 31 is then at the greatest offset of LDR and STR.
 pub const MAX_SLOT_OFFSET: u64 = 8 * (4095 - 31);
 

@@ -1,34 +1,36 @@
 -- Translate by its parts: which refusal, and the answer. Assumes nothing.
-use Prim.Native.Nat.{ℕ, _-_, _*_, _%_, _^_, _≤_, _<_}
+use Prim.Native.Nat.{ℕ, _-_, _*_, _%_, _^_, _≤_, _<_, min}
 use native.Mathlib.Omega.{arith}
 use mathlib.Core.Path.{_≡_, refl, sym, ap, _∙_}
-use mathlib.Core.Bool.{Bool, true, false, cond, _||_, true≢false}
-use mathlib.Core.List.{List, [], _∷_}
+use mathlib.Core.Bool.{Bool, true, false, true≢false}
+use mathlib.Core.List.{List, [], _∷_, _++_, append-nil}
 use mathlib.Core.Option.{Option, none, some}
 use lib.Dec.{eqb, ltb}
-use lib.ListN.{length, take, length-take}
-use borrow.Author.Tests.{le-ltb, lt-ltb, le-leb, lt-leb, eq-eqb, ne-eqb, ltb-false}
-use Rattle.rules.specs.Limits.{max-words, max-instrs, max-slot-offset}
+use lib.ListN.{length, take, drop, length-take}
+use lib.Seq.{take-length, drop-length}
+use borrow.Author.Tests.{le-ltb, lt-ltb, le-leb, lt-leb, eq-eqb, ne-eqb, ltb-true, ltb-false}
+use Rattle.rules.specs.Limits.{max-instrs, max-slot-offset}
 use Rattle.rules.specs.Refusals as Refusals
-use Rattle.a64_emitter.specs.declared.A64Emitter.{A64Emitter}
 use Rattle.a64_emitter.specs.Emitter.{bytes}
-use Rattle.a64_emitter.specs.Parts.{block-words, written, Written}
+use Rattle.a64_emitter.specs.Parts.{written, Written}
 use Rattle.a64_emitter.proofs.Emission.{length-bytes}
 use Rattle.emit_native.specs.declared.Host.{Host}
 use Rattle.emit_native.specs.Calls.{product}
 use Rattle.emit_native.proofs.Size.{by}
 use types.Run.{OneOf, miss}
 use denote.Enum.Declared.{tagOf}
-use Rattle.jit_arm64.specs.declared.block.NativeBlock.{NativeBlock}
+use Rattle.jit_arm64.specs.declared.block.Walked.{Walked}
 use Rattle.jit_arm64.specs.declared.block.Stop.{Stop}
 use Rattle.jit_arm64.proofs.block.Stop as Stops
 use Rattle.jit_arm64.specs.Block.{fetch, is-missing, block-of, compile-native-block}
 use Rattle.jit_arm64.specs.Fence.{fence, limit-at}
-use Rattle.jit_arm64.specs.Parts.{BlockOf, fence-walk, is-fenced, is-uncovered, first-refusal}
+use Rattle.jit_arm64.specs.Parts.{BlockOf, fence-walk, is-fenced, missed}
 use Rattle.translator.specs.declared.EndKind.{EndKind}
+use Rattle.translator.specs.declared.Answer.{Answer}
+use Rattle.translator.specs.Parts.{answer-of}
 use Rattle.translator.specs.Translate.{result, refused, end-kind, end-number, bad-slot-offset, no-block, of-block, translate}
 use Rattle.jit_arm64.proofs.Refusals.{refuses}
-use Rattle.jit_arm64.proofs.Fences.{no-block-with-fence}
+use Rattle.jit_arm64.proofs.Fences.{no-block-with-fence, none-why, clamped-walk, clamped-fence}
 
 module _ (h : Host) (guest : List ℕ) (pc limit : ℕ) where
   abbrev pub Refused : ℕ → List ℕ → Type 0
@@ -54,59 +56,63 @@ module _ (h : Host) (guest : List ℕ) (pc limit : ℕ) where
       odd out e =
           stopped Refusals.odd-pc out (rw (ne-eqb limit 0 a, eq-eqb (pc % 2) 1 e) refl) (rw (ne-eqb limit 0 a, eq-eqb (pc % 2) 1 e) refl)
 
-      module _ (b : pc % 2 ≡ 1 → ⊥) where
-        abbrev m : Bool
-        m = is-missing (fetch pc guest 0)
+      -- the walk counted nothing: its stop says why there is no block
+      module _ (b : pc % 2 ≡ 1 → ⊥) {ws : List ℕ} {r : Walked} (v : BlockOf h guest pc limit ws r) (none-counted : r .n ≡ 0) where
+        why : missed (r .stop) ≡ is-missing (fetch pc guest 0)
+        why = rw (v .stop) (none-why (max-instrs - 1) h guest pc limit hp a (sym (v .count) ∙ none-counted))
 
-        abbrev u : Bool
-        u = is-uncovered h pc (fetch pc guest 0)
+        nothing : (n : ℕ) (out : List ℕ) → no-block guest pc limit ≡ n → Refused n out
+        unfolding translate of-block compile-native-block
+        nothing n out e = rw (good, eq-eqb (fence-walk max-instrs h guest pc limit .count) 0 (sym (v .count) ∙ none-counted), e) refl
 
-        by-parts : (p q : Bool) → m ≡ p → u ≡ q → (out : List ℕ) {n : ℕ} → n ≡ cond p 4 (cond q 5 0) → (n ≡ 0 → ⊥) → Refused n out
+        pub not-fetched : (out : List ℕ) → missed (r .stop) ≡ true → Refused Refusals.not-fetched out
         unfolding no-block
-        by-parts true q e f out {n} g z =
-            rw g (stopped 4 out (rw (ne-eqb limit 0 a, ne-eqb (pc % 2) 1 b, e) refl) (rw (ne-eqb limit 0 a, ne-eqb (pc % 2) 1 b, e) refl))
-        by-parts false true e f out {n} g z =
-            rw g (stopped 5 out (rw (ne-eqb limit 0 a, ne-eqb (pc % 2) 1 b, e, f) refl) (rw (ne-eqb limit 0 a, ne-eqb (pc % 2) 1 b, e) refl))
-        by-parts false false e f out {n} g z = absurd (z g)
+        not-fetched out e = nothing Refusals.not-fetched out (rw (ne-eqb limit 0 a, ne-eqb (pc % 2) 1 b, ← why, e) refl)
 
-        pub by-first : (out : List ℕ) {n : ℕ} → n ≡ first-refusal h guest pc → (n ≡ 0 → ⊥) → Refused n out
-        by-first out e z = by-parts m u refl refl out e z
+        pub not-covered : (out : List ℕ) → missed (r .stop) ≡ false → Refused Refusals.not-covered out
+        unfolding no-block
+        not-covered out e = nothing Refusals.not-covered out (rw (ne-eqb limit 0 a, ne-eqb (pc % 2) 1 b, ← why, e) refl)
 
-        covered-by : (p q : Bool) → m ≡ p → u ≡ q → _≡_ {A = ℕ} (cond p 4 (cond q 5 0)) 0 → (m || u) ≡ false
-        covered-by true q e f z = absurd (omega (arith, z))
-        covered-by false true e f z = absurd (omega (arith, z))
-        covered-by false false e f z = rw (e, f) refl
+-- a block's words, written to the output where they fit
+module _ {h : Host} {guest : List ℕ} {pc limit : ℕ} (good : bad-slot-offset (h .«slot_offset») ≡ false) {ws : List ℕ} {r : Walked} (v : BlockOf h guest pc limit ws r)
+    (counted : r .n ≡ 0 → ⊥) {out : List ℕ} {len : ℕ} {out′ : List ℕ} (w : Written ws out len out′) where
+  code-is : bytes ws ≡ block-of product h (fence-walk max-instrs h guest pc limit) .code
+  code-is = ap bytes (v .holds)
 
-        -- the block's words, written to the output where they fit
-        module _ {n : ℕ} (e : n ≡ first-refusal h guest pc) (z : n ≡ 0) (r : NativeBlock)
-            (v : BlockOf (h .«slot_offset») (fence-walk max-instrs h guest pc limit) (fence max-instrs h guest pc limit) r) (out : List ℕ) {len : ℕ} {out′ : List ℕ}
-            (w : Written (block-words (r .em)) out len out′) where
-          code-is : bytes (block-words (r .em)) ≡ block-of product h (fence-walk max-instrs h guest pc limit) .code
-          code-is = ap bytes (v .holds)
+  found : compile-native-block product max-instrs h guest pc (limit-at (fence max-instrs h guest pc limit) limit) ≡ some (block-of product h (fence-walk max-instrs h guest pc limit))
+  unfolding compile-native-block
+  found = rw (ne-eqb (fence-walk max-instrs h guest pc limit .count) 0 (λ q. counted (v .count ∙ q))) refl
 
-          found : compile-native-block product max-instrs h guest pc (limit-at (fence max-instrs h guest pc limit) limit) ≡ some (block-of product h (fence-walk max-instrs h guest pc limit))
-          found =
-              let t : refuses h guest pc limit ≡ false = rw (ne-eqb limit 0 a, ne-eqb (pc % 2) 1 b) (covered-by m u refl refl (sym e ∙ z)) in
-              no-block-with-fence product (max-instrs - 1) h guest pc limit hp ∙ rw t refl
+  too-short : length out < len → refused Refusals.output-short out′ ≡ translate h guest pc limit out
+  unfolding translate of-block written
+  too-short l =
+      let k : length out < length (bytes ws) = rw (w .count) at l in
+      let o : out′ ≡ out = w .content ∙ rw (lt-leb (length (bytes ws)) (length out) k) refl in
+      rw (good, found, ← code-is, lt-ltb (length out) (length (bytes ws)) k, o) refl
 
-          pub too-short : length out < len → refused Refusals.output-short out′ ≡ translate h guest pc limit out
-          unfolding translate of-block written
-          too-short l =
-              let k : length out < length (bytes (block-words (r .em))) = rw (w .count) at l in
-              let o : out′ ≡ out = w .content ∙ rw (lt-leb (length (bytes (block-words (r .em)))) (length out) k) refl in
-              rw (good, found, ← code-is, lt-ltb (length out) (length (bytes (block-words (r .em)))) k, o) refl
+  is-accepted : len ≤ length out
+      → result (record { refusal = 0; length = len; count = r .n; end = end-number (end-kind (fence max-instrs h guest pc limit) (r .stop)) }) out′ ≡ translate h guest pc limit out
+  unfolding translate of-block written
+  is-accepted l =
+      let k : length (bytes ws) ≤ length out = rw (w .count) at l in
+      rw (w .content, le-leb (length (bytes ws)) (length out) k, good, found, w .count, v .count, v .stop, ← code-is, le-ltb (length out) (length (bytes ws)) k) refl
 
-          pub is-accepted : {k : EndKind} {end : ℕ} → ((f : Option ℕ) → r .fence ≡ is-fenced f → k ≡ end-kind f (r .stop)) → end ≡ end-number k → len ≤ length out
-              → result (record { refusal = 0; length = len; count = r .count; end = end }) out′ ≡ translate h guest pc limit out
-          unfolding translate of-block written
-          is-accepted kind number l =
-              let k : length (bytes (block-words (r .em))) ≤ length out = rw (w .count) at l in
-              rw (w .content, le-leb (length (bytes (block-words (r .em)))) (length out) k, good, found, w .count, v .count, number, kind _ (v .fence), v .stop, ← code-is, le-ltb (length out) (length (bytes (block-words (r .em)))) k) refl
+  pub answered : {a : Answer} → ((f : Option ℕ) → r .fence ≡ is-fenced f → a ≡ answer-of f r len (length out)) → result a out′ ≡ translate h guest pc limit out
+  answered is =
+      let e = is (fence max-instrs h guest pc limit) (v .fence) in
+      by (ltb (length out) len) (λ t. rw (e, t) (too-short (ltb-true (length out) len t))) (λ t. rw (e, t) (is-accepted (ltb-false (length out) len t)))
+
+-- the limit may be clamped before
+pub clamped-block : {h : Host} {guest : List ℕ} {pc limit most : ℕ} {ws : List ℕ} {r : Walked} → most ≡ min limit max-instrs → BlockOf h guest pc most ws r → BlockOf h guest pc limit ws r
+clamped-block {h} {guest} {pc} {limit} {most} e v =
+    let w = clamped-walk h guest pc limit in
+    let f = clamped-fence h guest pc limit in
+    let u = rw e at v in
+    record { holds = u .holds ∙ rw w refl; count = u .count ∙ rw w refl; stop = u .stop ∙ rw w refl; fence = u .fence ∙ rw f refl }
 
 -- a block's bytes are few
-pub few-bytes : (em : A64Emitter) (out : List ℕ) (n : ℕ) (out′ : List ℕ) → length (em .words) ≡ max-words → Written (block-words em) out n out′ → n ≤ 4 * max-words
-unfolding block-words
-few-bytes em out n out′ e w = omega (arith, w .count, length-bytes (take (em .len) (em .words)), length-take (em .len) (em .words))
+pub few-bytes : (m : ℕ) (ws : List ℕ) (len : ℕ) (out : List ℕ) (n : ℕ) (out′ : List ℕ) → length ws ≡ m → Written (take len ws) out n out′ → n ≤ 4 * m
+few-bytes m ws len out n out′ e w = omega (arith, w .count, length-bytes (take len ws), length-take len ws)
 
 -- ---- the slot offset
 
@@ -148,3 +154,33 @@ is-plain none Stop.Uncovered e o q = refl
 is-plain none Stop.NotFetched e o q = refl
 is-plain none Stop.Helper e o q = absurd (miss (0 ∷ 1 ∷ 3 ∷ 4 ∷ []) 2 tt o)
 is-plain (some n) why e o q = absurd (true≢false (sym q ∙ e))
+
+-- ---- why there is no block
+
+pub no-halfword : {why : Stop} → why ≡ Stop.NotFetched → missed why ≡ true
+unfolding missed
+no-halfword e = rw e refl
+
+pub other-stop : (why : Stop) → OneOf (0 ∷ 1 ∷ 2 ∷ 3 ∷ []) (tagOf Stops.the-type why) → missed why ≡ false
+unfolding missed
+other-stop Stop.Limit o = refl
+other-stop Stop.Ended o = refl
+other-stop Stop.Helper o = refl
+other-stop Stop.Uncovered o = refl
+other-stop Stop.NotFetched o = absurd (miss (0 ∷ 1 ∷ 2 ∷ 3 ∷ []) 4 tt o)
+
+-- ---- the output, of which the first k bytes were lent
+
+empty : (l : List ℕ) → length l ≡ 0 → l ≡ []
+empty [] e = refl
+empty (x ∷ l) e = absurd (omega (arith, e))
+
+-- none of it
+pub untouched : (k : ℕ) (out d : List ℕ) → k ≡ 0 → length d ≡ length (take (k - 0) (drop 0 out)) → d ++ drop (k - 0) (drop 0 out) ≡ out
+untouched k out d z e =
+    let n : length d ≡ 0 = e ∙ rw z refl in
+    rw (empty d n, z) refl
+
+-- or all
+pub all-lent : (k : ℕ) (out : List ℕ) → k ≡ length out → (take (k - 0) (drop 0 out) ≡ out) × ((d : List ℕ) → d ++ drop (k - 0) (drop 0 out) ≡ d)
+all-lent k out e = let z : k - 0 ≡ length out = omega arith in (rw z (take-length out), λ d. rw (z, drop-length out) (append-nil d))

@@ -1,8 +1,8 @@
 use borrow.Author.Needs.{needs}
 use native.Mathlib.Omega.{arith}
-use mathlib.Core.Path.{sym}
+use mathlib.Core.Path.{refl, sym}
 use mathlib.Core.List.{[], _∷_}
-use Rattle.rules.specs.Limits.{instr-words}
+use lib.ListN.{length}
 use Rattle.a64_emitter.proofs.Emission.{stored, kept}
 use Rattle.a64_emitter.proofs.emit_at.Statement.{statement}
 use Rattle.a64_emitter.proofs.emit_at.Tie as tie
@@ -10,12 +10,12 @@ use Rattle.a64_emitter.proofs.emit_at.Tie as tie
 returns : tie.Need-returns
 returns c =
     let a = c .before .args in
-    record { long = search needs; holds = stored instr-words (a .words .now) (a .at) (a .w) (search needs) (search needs); room = λ h. omega arith }
+    record { long = search needs; holds = stored (length (a .words .now)) (a .words .now) (a .at) (a .w) refl (search needs); room = λ h. omega arith }
 
 returns-2 : tie.Need-returns-2
 returns-2 c =
     let a = c .before .args in
-    record { long = c .before .pre; holds = sym (kept instr-words (a .words .now) (a .at) (a .w ∷ []) (search needs) (omega arith)); room = λ h. h }
+    record { long = refl; holds = sym (kept (length (a .words .now)) (a .words .now) (a .at) (a .w ∷ []) refl (omega arith)); room = λ h. h }
 
 pub emit-at-spec : {M : Type 1} → statement M
-emit-at-spec = tie.close (tie.spec (λ c. search needs) (λ c. search needs) (λ c. search needs) returns returns-2)
+emit-at-spec = tie.close (tie.spec (λ c. search needs) (λ c. search needs) (λ c. search needs) (λ c. search needs) returns returns-2)

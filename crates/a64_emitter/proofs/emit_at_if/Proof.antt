@@ -1,5 +1,5 @@
 use borrow.Author.Needs.{needs}
-use mathlib.Core.Path.{sym}
+use mathlib.Core.Path.{refl, sym}
 use Rattle.a64_emitter.specs.Parts.{emitted-if}
 use Rattle.a64_emitter.proofs.Emission.{emitted-none}
 use Rattle.a64_emitter.proofs.emit_at_if.Statement.{statement}
@@ -7,11 +7,11 @@ use Rattle.a64_emitter.proofs.emit_at_if.Tie as tie
 
 returns : tie.Need-returns
 unfolding emitted-if
-returns c = rw (c .before .before .if1 .taken) (c .emit-at .ensures)
+returns c = rw (c .before .before .before .before .if1 .taken) (c .before .before .emit-at .ensures)
 
 returns-2 : tie.Need-returns-2
 unfolding emitted-if
-returns-2 c = record { long = c .before .pre; holds = rw (c .if1 .left) (sym (emitted-none _ _)); room = λ h. h }
+returns-2 c = record { long = refl; holds = rw (c .if1 .left) (sym (emitted-none _ _)); room = λ h. h }
 
 pub emit-at-if-spec : {M : Type 1} → statement M
-emit-at-if-spec = tie.close (tie.spec (λ c κs. search needs) returns returns-2)
+emit-at-if-spec = tie.close (tie.spec (λ c κs. search needs) (λ c. search needs) returns returns-2)

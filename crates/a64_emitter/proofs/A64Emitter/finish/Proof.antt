@@ -22,7 +22,7 @@ returns : tie.Need-returns Inv-loop μ-loop
 unfolding block-words
 returns c =
     let a = c .before .before .before .args in
-    rw (c .before .block-count .ensures) (none-written (a .t1 .words) (a .out .now) (a .t1 .len) (search needs) (rw (c .before .block-count .ensures) at (c .if1 .taken)))
+    rw (c .before .block-count .ensures) (none-written max-words (a .t1 .words) (a .out .now) (a .t1 .len) (search needs) (rw (c .before .block-count .ensures) at (c .if1 .taken)))
 
 loop-holds : tie.Need-loop-holds Inv-loop μ-loop
 unfolding all-bytes
@@ -44,7 +44,7 @@ returns-2 c =
     let l = c .before .loop in
     let k = c .before .before .before .block-count in
     let e : l .i ≡ k .result = omega arith in
-    rw (k .ensures) (all-written (a .t1 .words) (a .out .now) (a .t1 .len) (search needs) (rw (k .ensures) at (c .before .before .if1 .left)) _ (rw (e, k .ensures) at (l .inv .2)))
+    rw (k .ensures) (all-written max-words (a .t1 .words) (a .out .now) (a .t1 .len) (search needs) (rw (k .ensures) at (c .before .before .if1 .left)) _ (rw (e, k .ensures) at (l .inv .2)))
 
 pub finish-spec : {M : Type 1} → statement M
 finish-spec =
