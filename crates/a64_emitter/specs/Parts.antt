@@ -12,10 +12,10 @@ use Rattle.a64_emitter.specs.Writers.{mov-imm64}
 use Rattle.a64_emitter.specs.Emitter.{bytes}
 use Rattle.rules.specs.Limits.{instr-words}
 
--- ---- the words that an emitter holds, an instruction's and a block's, and what the calls that add words leave
+-- ---- the words that an emitter holds, an instruction's (of the array lent beside it) and a block's, and what the calls that add words leave
 
-unfoldable pub held : InstrEmitter → List ℕ
-held e = take (e .len) (e .words)
+unfoldable pub held : InstrEmitter → List ℕ → List ℕ
+held e l = take (e .len) l
 
 unfoldable pub block-words : A64Emitter → List ℕ
 block-words e = take (e .len) (e .words)
@@ -49,6 +49,15 @@ in-turn m h (g ∷ gs) = in-turn m (emitted-in m h g) gs
 -- the same of an instruction's emitter
 abbrev pub emitted-all : List ℕ → List (List ℕ) → List ℕ
 emitted-all h gs = in-turn instr-words h gs
+
+-- the array of an instruction's words
+abbrev pub InstrArray : List ℕ → Type 0
+InstrArray l = length l ≡ instr-words
+
+-- an instruction's emitter e with its array l, after calls that add the groups gs: r and l′
+pub record Adds (e : InstrEmitter) (l : List ℕ) (r : InstrEmitter) (l′ : List ℕ) (gs : List (List ℕ)) : Type 0 where
+  pub long : InstrArray l′
+  pub holds : held r l′ ≡ emitted-all (held e l) gs
 
 -- what a call leaves of an array l of m words whose first n are held: the first r of l′ are held, and they are those with ws added
 pub record Added (m : ℕ) (l : List ℕ) (n : ℕ) (l′ : List ℕ) (r : ℕ) (ws : List ℕ) : Type 0 where

@@ -1,10 +1,10 @@
 // `A64Emitter` of hart.rs: its word writers, and the emitters of an instruction's words and of a block's.
 ghost use mathlib.Core.Path.{_≡_};
 ghost use Prim.Native.Nat.{ℕ, _+_, _<_, _≤_, min};
-ghost use mathlib.Core.List.{[], _∷_};
+ghost use mathlib.Core.List.{List, [], _∷_};
 ghost use lib.ListN.{length, take};
 ghost use Rattle.le.specs.Le.{store};
-ghost use Rattle.a64_emitter.specs.Parts.{held, block-words, short-block-words, emitted-in, emitted, emitted-if, constant-if, Added, Copied, Written};
+ghost use Rattle.a64_emitter.specs.Parts.{held, block-words, short-block-words, emitted-in, emitted-if, constant-if, InstrArray, Adds, Added, Copied, Written};
 ghost use Rattle.a64_emitter.specs.Writers as Writers;
 ghost use Rattle.rules.specs.Limits.{instr-words, short-words, max-words};
 
@@ -26,9 +26,9 @@ pub struct ShortEmitter {
     pub len: usize,
 }
 
-// The words of one instruction, or of the end of a block, with their count.
+// The emitter of one instruction: how many words it holds of the array of INSTR_WORDS that is lent beside it. The array is
+// no field: a struct of 128 bytes would be copied at each call, right after its words were stored.
 pub struct InstrEmitter {
-    pub words: [u32; INSTR_WORDS],
     pub len: usize,
 }
 
@@ -172,57 +172,42 @@ fn write_word(out: &mut [u8], at: usize, w: u32)
     out[at + 3] = (w / 0x100_0000 % 256) as u8;
 }
 
-fn instr_word(words: &mut [u32; INSTR_WORDS], at: usize, test: bool, w: u32) -> usize
-    requires { ⌜ length (now words) ≡ instr-words ⌝ }
-    ensures { λ r. ⌜ Added instr-words (now (words .entry)) at (now (words .exit)) r (emitted-if «test» w) ⌝ }
-{
-    emit_at_if(words, at, test, w)
-}
-
-fn instr_constant(words: &mut [u32; INSTR_WORDS], at: usize, rd: u8, val: u64) -> usize
-    requires { ⌜ (length (now words) ≡ instr-words) × (rd < 32) ⌝ }
-    ensures { λ r. ⌜ Added instr-words (now (words .entry)) at (now (words .exit)) r (Writers.mov-imm64 rd val) ⌝ }
-{
-    mov_imm64_at(words, at, rd, val)
-}
-
 impl InstrEmitter {
     pub fn new() -> Self
-        ensures { λ r. ⌜ held r ≡ [] ⌝ }
+        ensures { λ r. ⌜ ((l : List ℕ) → held r l ≡ []) ⌝ }
     {
-        InstrEmitter {
-            words: [0u32; INSTR_WORDS],
-            len: 0,
-        }
+        InstrEmitter { len: 0 }
     }
 
     // One word more, or unchanged where it does not fit.
-    pub fn emit(mut self, w: u32) -> Self
-        ensures { λ r. ⌜ held r ≡ emitted (held self) (w ∷ []) ⌝ }
+    pub fn emit(mut self, words: &mut [u32; INSTR_WORDS], w: u32) -> Self
+        requires { ⌜ InstrArray (now words) ⌝ }
+        ensures { λ r. ⌜ Adds self (now (words .entry)) r (now (words .exit)) ((w ∷ []) ∷ []) ⌝ }
     {
         let at = self.len;
-        let n = instr_word(&mut self.words, at, true, w);
+        let n = emit_at(words, at, w);
         self.len = n;
         self
     }
 
     // One word more where the test holds, or unchanged where it does not or the word does not fit.
-    pub fn emit_if(mut self, test: bool, w: u32) -> Self
-        ensures { λ r. ⌜ held r ≡ emitted (held self) (emitted-if «test» w) ⌝ }
+    pub fn emit_if(mut self, words: &mut [u32; INSTR_WORDS], test: bool, w: u32) -> Self
+        requires { ⌜ InstrArray (now words) ⌝ }
+        ensures { λ r. ⌜ Adds self (now (words .entry)) r (now (words .exit)) (emitted-if «test» w ∷ []) ⌝ }
     {
         let at = self.len;
-        let n = instr_word(&mut self.words, at, test, w);
+        let n = emit_at_if(words, at, test, w);
         self.len = n;
         self
     }
 
     // A constant more, or unchanged where its words do not all fit.
-    pub fn mov_imm64(mut self, rd: u8, val: u64) -> Self
-        requires { ⌜ rd < 32 ⌝ }
-        ensures { λ r. ⌜ held r ≡ emitted (held self) (Writers.mov-imm64 rd val) ⌝ }
+    pub fn mov_imm64(mut self, words: &mut [u32; INSTR_WORDS], rd: u8, val: u64) -> Self
+        requires { ⌜ (rd < 32) × InstrArray (now words) ⌝ }
+        ensures { λ r. ⌜ Adds self (now (words .entry)) r (now (words .exit)) (Writers.mov-imm64 rd val ∷ []) ⌝ }
     {
         let at = self.len;
-        let n = instr_constant(&mut self.words, at, rd, val);
+        let n = mov_imm64_at(words, at, rd, val);
         self.len = n;
         self
     }

@@ -78,8 +78,8 @@ module _ (pc instr : ℕ) where
   in-class d c e f = rw (f, e) (by-class-is (decode32 instr) (instr % 128))
 
   -- what is emitted in the arm of a class k is what is emitted for the word
-  pub in-arm : (d : Decoded32) {c k : Class} → d ≡ decode32 instr → c ≡ class-of (instr % 128) → c ≡ k → {slot-offset : ℕ} {h : List ℕ} {r : Emitted}
-      → Emits slot-offset h (by-class pc instr d k) r → Emits slot-offset h (emit-native-instr pc instr d) r
+  pub in-arm : (d : Decoded32) {c k : Class} → d ≡ decode32 instr → c ≡ class-of (instr % 128) → c ≡ k → {slot-offset : ℕ} {h : List ℕ} {r : Emitted} {l : List ℕ}
+      → Emits slot-offset h (by-class pc instr d k) r l → Emits slot-offset h (emit-native-instr pc instr d) r l
   in-arm d e f g a = rw (in-class d _ e f, g) a
 
 -- the registers of a word that was decoded

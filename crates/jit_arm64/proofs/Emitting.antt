@@ -236,31 +236,31 @@ module _ (slot-offset : ℕ) where
       by (is-32 instr) (λ t. rw t (apart32 h pc instr (decode32 instr) k b (omega arith))) (λ t. rw t (apart16 h pc instr k b))
 
   -- from a new emitter
-  pub alone : (h : List ℕ) (e : Emission) (out : Emitted) → h ≡ [] → Emits slot-offset h e out → size slot-offset (e .calls) ≤ inline-words → held (out .em) ≡ words slot-offset (e .calls)
+  pub alone : (h : List ℕ) (e : Emission) (out : Emitted) (l : List ℕ) → h ≡ [] → Emits slot-offset h e out l → size slot-offset (e .calls) ≤ inline-words → held (out .em) l ≡ words slot-offset (e .calls)
   unfolding words-in
-  alone h e out new emits few = emits .words ∙ emitted-all-new h (groups slot-offset (e .calls)) new (omega arith)
+  alone h e out l new emits few = emits .words ∙ emitted-all-new h (groups slot-offset (e .calls)) new (omega arith)
 
   -- from what the inline emitter left
-  pub handed-on : (e helper : Emission) (left : List ℕ) (out : Emitted) → Apart e helper → left ≡ words slot-offset (e .calls) → Emits slot-offset left helper out
-      → held (out .em) ≡ words slot-offset (e .calls ++ helper .calls)
+  pub handed-on : (e helper : Emission) (left : List ℕ) (out : Emitted) (l : List ℕ) → Apart e helper → left ≡ words slot-offset (e .calls) → Emits slot-offset left helper out l
+      → held (out .em) l ≡ words slot-offset (e .calls ++ helper .calls)
   unfolding words-in flatten
-  handed-on e helper left out (inl a) q emits = rw a at (emits .words) ∙ q ∙ rw (a, append-nil (e .calls))
-  handed-on e helper left out (inr a) q emits =
+  handed-on e helper left out l (inl a) q emits = rw a at (emits .words) ∙ q ∙ rw (a, append-nil (e .calls))
+  handed-on e helper left out l (inr a) q emits =
       rw (a .0) (emits .words ∙ emitted-all-new left (groups slot-offset (helper .calls)) (q ∙ rw (a .0)) (a .2))
 
   -- what the code's emitters answer
-  pub compiled : (h : Host) (pc instr : ℕ) {e : Emission} {new : List ℕ} {out : Emitted} → emit-native h pc instr ≡ e → new ≡ [] → Emits slot-offset new e out
-      → Compiled slot-offset (emit-native h pc instr .calls) (emit-native h pc instr .flow) out
-  compiled h pc instr {e} {new} {out} q n emits =
+  pub compiled : (h : Host) (pc instr : ℕ) {e : Emission} {new : List ℕ} {out : Emitted} {l : List ℕ} → emit-native h pc instr ≡ e → new ≡ [] → Emits slot-offset new e out l
+      → Compiled slot-offset (emit-native h pc instr .calls) (emit-native h pc instr .flow) out l
+  compiled h pc instr {e} {new} {out} {l} q n emits =
       let few = rw q at (native-size h pc instr) in
-      rw q (record { holds = alone new e out n emits few; flow = emits .flow })
+      rw q (record { long = emits .long; holds = alone new e out l n emits few; flow = emits .flow })
 
-  pub compiled-helper : (h : Host) (pc instr k : ℕ) {helper : Emission} {left : List ℕ} {out : Emitted} → k < 65536 → emit-term-helper h pc instr k ≡ helper
-      → left ≡ words slot-offset (emit-native h pc instr .calls) → Emits slot-offset left helper out
-      → Compiled slot-offset (emit-native h pc instr .calls ++ emit-term-helper h pc instr k .calls) (emit-term-helper h pc instr k .flow) out
-  compiled-helper h pc instr k {helper} {left} {out} b q l emits =
+  pub compiled-helper : (h : Host) (pc instr k : ℕ) {helper : Emission} {left : List ℕ} {out : Emitted} {l : List ℕ} → k < 65536 → emit-term-helper h pc instr k ≡ helper
+      → left ≡ words slot-offset (emit-native h pc instr .calls) → Emits slot-offset left helper out l
+      → Compiled slot-offset (emit-native h pc instr .calls ++ emit-term-helper h pc instr k .calls) (emit-term-helper h pc instr k .flow) out l
+  compiled-helper h pc instr k {helper} {left} {out} {l} b q t emits =
       let a = rw q at (native-apart h pc instr k b) in
-      rw q (record { holds = handed-on (emit-native h pc instr) helper left out a l emits; flow = emits .flow })
+      rw q (record { long = emits .long; holds = handed-on (emit-native h pc instr) helper left out l a t emits; flow = emits .flow })
 
   -- the words of an instruction that a helper takes, and of one that is not covered
   pub helped-size : (e helper : Emission) → size slot-offset (e .calls) ≤ inline-words → Apart e helper → size slot-offset (e .calls ++ helper .calls) ≤ instr-words

@@ -184,7 +184,7 @@ module _ {h : Host} {guest : List ℕ} {start limit m k₀ : ℕ} {l : List ℕ}
         with few = appended few .holds ∙ ap (λ (us : List ℕ). us ++ words (h .«slot_offset») cs) (v .holds) ∙ sym (words-append (h .«slot_offset») (v .calls) cs)
 
       -- inline words
-      module _ {out : Emitted} (c : Compiled (h .«slot_offset») (e .calls) (e .flow) out) {l′ : List ℕ} {len′ : ℕ} (added : Added (length l) l len l′ len′ (held (out .em))) where
+      module _ {out : Emitted} {part : List ℕ} (c : Compiled (h .«slot_offset») (e .calls) (e .flow) out part) {l′ : List ℕ} {len′ : ℕ} (added : Added (length l) l len l′ len′ (held (out .em) part)) where
         few : length (words (h .«slot_offset») (e .calls)) ≤ inline-words
         few = omega (arith, words-size (h .«slot_offset») (e .calls), native-size (h .«slot_offset») h pc (r .instr))
 
@@ -241,8 +241,8 @@ module _ {h : Host} {guest : List ℕ} {start limit m k₀ : ℕ} {l : List ℕ}
             (record { holds = with (e .calls) (c .holds) added (omega arith) ∙ rw (append-nil (e .calls)) refl; count = next; stop = refl; pc = refl; fence = refl; few = omega arith; room = let z = a .long in omega arith }))
 
       -- what the inline emitter left, and the helper's words
-      module _ {out left : Emitted} (i₀ : Compiled (h .«slot_offset») (e .calls) (e .flow) left) (none : left .flow ≡ None)
-          (c : Compiled (h .«slot_offset») (e .calls ++ helper .calls) (helper .flow) out) {l′ : List ℕ} {len′ : ℕ} (added : Added (length l) l len l′ len′ (held (out .em))) where
+      module _ {out left : Emitted} {part front : List ℕ} (i₀ : Compiled (h .«slot_offset») (e .calls) (e .flow) left front) (none : left .flow ≡ None)
+          (c : Compiled (h .«slot_offset») (e .calls ++ helper .calls) (helper .flow) out part) {l′ : List ℕ} {len′ : ℕ} (added : Added (length l) l len l′ len′ (held (out .em) part)) where
         abbrev both : List Call
         both = e .calls ++ helper .calls
 

@@ -7,7 +7,7 @@ use mathlib.Core.Path.{_≡_}
 use lib.ListN.{length, take}
 use Rattle.word.specs.Word.{add}
 use Rattle.rules.specs.Limits.{inline-words, end-words, max-words, max-instrs}
-use Rattle.a64_emitter.specs.Parts.{held, block-words, short-block-words}
+use Rattle.a64_emitter.specs.Parts.{held, block-words, short-block-words, InstrArray}
 use Rattle.emit_native.specs.declared.Host.{Host}
 use Rattle.emit_native.specs.declared.EmitFlow.{EmitFlow}
 use Rattle.emit_native.specs.declared.EmitFlow.the-variants.{Continue, Terminate, None}
@@ -35,9 +35,10 @@ pub record FetchedOf (f : Option ℕ) (r : Fetched) : Type 0 where
   pub found : r ≡ fetched f
   pub narrow : Narrow (r .instr)
 
--- an instruction's words, emitted by themselves, and the flow
-pub record Compiled (slot-offset : ℕ) (cs : List Call) (f : EmitFlow) (r : Emitted) : Type 0 where
-  pub holds : held (r .em) ≡ words slot-offset cs
+-- an instruction's words, by themselves at the front of its array l, and the flow
+pub record Compiled (slot-offset : ℕ) (cs : List Call) (f : EmitFlow) (r : Emitted) (l : List ℕ) : Type 0 where
+  pub long : InstrArray l
+  pub holds : held (r .em) l ≡ words slot-offset cs
   pub flow : r .flow ≡ f
 
 -- ---- the walk and the block

@@ -5,7 +5,7 @@ ghost use Prim.Native.Nat.{ℕ, _+_, _≤_, min};
 ghost use mathlib.Core.Bool.{false};
 ghost use lib.ListN.{length};
 ghost use Rattle.rules.specs.Limits.{inline-words, end-words, max-instrs, short-words, max-words, max-slot-offset};
-ghost use Rattle.a64_emitter.specs.Parts.{held, short-block-words, block-words, Copied};
+ghost use Rattle.a64_emitter.specs.Parts.{held, short-block-words, block-words, InstrArray, Copied};
 ghost use Rattle.emit_native.specs.Calls as Calls;
 ghost use Rattle.jit_arm64.specs.Block.{emit-native, emit-term-helper};
 ghost use Rattle.jit_arm64.specs.Fence.{is-fence-i};
@@ -19,6 +19,7 @@ use emit_native::Emitted;
 use emit_native::Host;
 use rules::END_WORDS;
 use rules::INLINE_WORDS;
+use rules::INSTR_WORDS;
 use rules::MAX_INSTRS;
 use rules::MAX_WORDS;
 use rules::SHORT_WORDS;
@@ -54,30 +55,37 @@ pub struct NativeBlock {
     pub done: Walked,
 }
 
-// The inline words of an instruction, by its width.
-fn emit_native(host: Host, pc: u64, instr: u32) -> Emitted
-    requires { ⌜ (host .«slot_offset» ≤ max-slot-offset) × Narrow instr ⌝ }
-    ensures { λ r. ⌜ Compiled (host .«slot_offset») (emit-native host pc instr .calls) (emit-native host pc instr .flow) r ⌝ }
+// The inline words of an instruction, by its width, at the front of `words`.
+fn emit_native(words: &mut [u32; INSTR_WORDS], host: Host, pc: u64, instr: u32) -> Emitted
+    requires { ⌜ (host .«slot_offset» ≤ max-slot-offset) × Narrow instr × InstrArray (now words) ⌝ }
+    ensures { λ r. ⌜ Compiled (host .«slot_offset») (emit-native host pc instr .calls) (emit-native host pc instr .flow) r (now (words .exit)) ⌝ }
 {
     if instr % 4 != 3 {
         let low = (instr % 0x1_0000) as u16;
-        return instr16::emit_native_instr16(InstrEmitter::new(), host, pc, low);
+        return instr16::emit_native_instr16(InstrEmitter::new(), words, host, pc, low);
     }
     let d = isa::decode::decode32(instr);
-    instr32::emit_native_instr(InstrEmitter::new(), host.slot_offset, pc, instr, d)
+    instr32::emit_native_instr(InstrEmitter::new(), words, host.slot_offset, pc, instr, d)
 }
 
 // The words of a helper's call, after those that the inline emitter left.
-fn emit_term_helper(em: InstrEmitter, host: Host, pc: u64, instr: u32, emitted: u32) -> Emitted
-    requires { ⌜ (host .«slot_offset» ≤ max-slot-offset) × Narrow instr × (emitted ≤ max-instrs) × (held em ≡ Calls.words (host .«slot_offset») (emit-native host pc instr .calls)) ⌝ }
-    ensures { λ r. ⌜ Compiled (host .«slot_offset») (emit-native host pc instr .calls ++ emit-term-helper host pc instr emitted .calls) (emit-term-helper host pc instr emitted .flow) r ⌝ }
+fn emit_term_helper(
+    em: InstrEmitter,
+    words: &mut [u32; INSTR_WORDS],
+    host: Host,
+    pc: u64,
+    instr: u32,
+    emitted: u32,
+) -> Emitted
+    requires { ⌜ (host .«slot_offset» ≤ max-slot-offset) × Narrow instr × (emitted ≤ max-instrs) × (held em (now words) ≡ Calls.words (host .«slot_offset») (emit-native host pc instr .calls)) × InstrArray (now words) ⌝ }
+    ensures { λ r. ⌜ Compiled (host .«slot_offset») (emit-native host pc instr .calls ++ emit-term-helper host pc instr emitted .calls) (emit-term-helper host pc instr emitted .flow) r (now (words .exit)) ⌝ }
 {
     if instr % 4 != 3 {
         let low = (instr % 0x1_0000) as u16;
-        return term_helper::emit_native_term_helper16(em, host, pc, low, emitted);
+        return term_helper::emit_native_term_helper16(em, words, host, pc, low, emitted);
     }
     let d = isa::decode::decode32(instr);
-    term_helper::emit_native_term_helper32(em, host, pc, instr, d, emitted)
+    term_helper::emit_native_term_helper32(em, words, host, pc, instr, d, emitted)
 }
 
 // Whether the end of a block sets the next PC, and whether there is an end.
@@ -156,6 +164,7 @@ fn walk(words: &mut [u32], guest: &[u8], start: u64, from: Walked, most: u32, ho
     let mut n: u32 = from.n;
     let mut fence = false;
     let mut full = false;
+    let mut part = [0u32; INSTR_WORDS];
     let room = words.len() - INLINE_WORDS - END_WORDS;
     let stop = loop {
         if n == most {
@@ -170,12 +179,12 @@ fn walk(words: &mut [u32], guest: &[u8], start: u64, from: Walked, most: u32, ho
         if found.size == 0 {
             break Stop::NotFetched;
         }
-        let out = emit_native(host, pc, found.instr);
+        let out = emit_native(&mut part, host, pc, found.instr);
         let flow = out.flow;
         if let EmitFlow::None = flow {
             let left = out.em;
-            let helper = emit_term_helper(left, host, pc, found.instr, n);
-            len = a64_emitter::append_at(words, len, &helper.em.words, helper.em.len);
+            let helper = emit_term_helper(left, &mut part, host, pc, found.instr, n);
+            len = a64_emitter::append_at(words, len, &part, helper.em.len);
             let taken = helper.flow;
             if let EmitFlow::Terminate = taken {
                 n += 1;
@@ -183,7 +192,7 @@ fn walk(words: &mut [u32], guest: &[u8], start: u64, from: Walked, most: u32, ho
             }
             break Stop::Uncovered;
         }
-        len = a64_emitter::append_at(words, len, &out.em.words, out.em.len);
+        len = a64_emitter::append_at(words, len, &part, out.em.len);
         i += found.size;
         n += 1;
         if let EmitFlow::Terminate = flow {

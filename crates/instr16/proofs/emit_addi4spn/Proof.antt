@@ -13,9 +13,9 @@ emit-addi4spn-spec =
     (tie.spec
     (λ c κs. search needs)
     (λ c κs. search needs)
-    (λ c. rw (imm-addi4spn-is (c .before .before .before .args .instr), ← c .before .before .imm-ciw .ensures, eq-eqb _ _ (c .before .if1 .taken)) (c .none .ensures _ _ _ refl))
+    (λ c. rw (imm-addi4spn-is (c .before .before .before .args .instr), ← c .before .before .imm-ciw .ensures, eq-eqb _ _ (c .before .if1 .taken)) (c .none .ensures _ _ _ _ (c .before .before .before .pre .1) refl))
     (λ c κs. search needs)
     (λ c κs. search needs)
     (λ c κs. search needs)
     (λ c κs. search needs)
-    (λ c. rw (imm-addi4spn-is (c .before .before .before .before .before .before .args .instr), ← c .before .before .before .before .before .imm-ciw .ensures, ne-eqb _ _ (c .before .before .before .before .if1 .left)) (c .go-on .ensures _ _ _ (rw (c .before .with-imm .ensures, c .before .before .before .add-x .ensures, c .before .before .low-prime .ensures .0)))))
+    (λ c. rw (imm-addi4spn-is (c .before .before .before .before .before .before .before .args .instr), ← c .before .before .before .before .before .before .imm-ciw .ensures, ne-eqb _ _ (c .before .before .before .before .before .if1 .left)) (c .go-on .ensures _ _ _ _ (c .before .with-imm .ensures .long) (rw (c .before .with-imm .ensures .holds, c .before .before .before .before .add-x .ensures, c .before .before .low-prime .ensures .0)))))

@@ -11,10 +11,10 @@ emit-c-add-spec =
     tie.close
     (tie.spec
     (λ c κs. search needs)
-    (λ c. rw (eq-eqb _ _ (c .before .if1 .taken)) (c .none .ensures _ _ _ refl))
+    (λ c. rw (eq-eqb _ _ (c .before .if1 .taken)) (c .none .ensures _ _ _ _ (c .before .before .pre .3) refl))
     (λ c κs. search needs)
     (λ c κs. search needs)
     (λ c κs. search needs)
     (λ c κs. search needs)
     (λ c κs. search needs)
-    (λ c. rw (ne-eqb _ _ (c .before .before .before .before .before .if1 .left)) (c .go-on .ensures _ _ _ (rw (c .before .store .ensures, c .before .before .emit .ensures, c .before .before .before .add-x .ensures, c .before .before .before .before .load-both .ensures)))))
+    (λ c. rw (ne-eqb _ _ (c .before .before .before .before .before .before .before .before .if1 .left)) (c .go-on .ensures _ _ _ _ (c .before .store .ensures .long) (rw (c .before .store .ensures .holds, c .before .before .before .emit .ensures .holds, c .before .before .before .before .add-x .ensures, c .before .before .before .before .before .before .load-both .ensures .holds)))))

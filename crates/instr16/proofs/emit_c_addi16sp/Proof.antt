@@ -13,8 +13,8 @@ emit-c-addi16sp-spec =
     (tie.spec
     (λ c κs. search needs)
     (λ c κs. search needs)
-    (λ c. rw (imm-addi16sp-is (c .before .before .before .args .instr), ← c .before .before .imm-ci16 .ensures, eq-eqb _ _ (c .before .if1 .taken)) (c .none .ensures _ _ _ refl))
+    (λ c. rw (imm-addi16sp-is (c .before .before .before .args .instr), ← c .before .before .imm-ci16 .ensures, eq-eqb _ _ (c .before .if1 .taken)) (c .none .ensures _ _ _ _ (c .before .before .before .pre .1) refl))
     (λ c κs. search needs)
     (λ c κs. search needs)
     (λ c κs. search needs)
-    (λ c. rw (imm-addi16sp-is (c .before .before .before .before .before .args .instr), ← c .before .before .before .before .imm-ci16 .ensures, ne-eqb _ _ (c .before .before .before .if1 .left)) (c .go-on .ensures _ _ _ (rw (c .before .with-imm .ensures, c .before .before .add-x .ensures)))))
+    (λ c. rw (imm-addi16sp-is (c .before .before .before .before .before .before .args .instr), ← c .before .before .before .before .before .imm-ci16 .ensures, ne-eqb _ _ (c .before .before .before .before .if1 .left)) (c .go-on .ensures _ _ _ _ (c .before .with-imm .ensures .long) (rw (c .before .with-imm .ensures .holds, c .before .before .before .add-x .ensures)))))

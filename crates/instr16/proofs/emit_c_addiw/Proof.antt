@@ -13,7 +13,7 @@ emit-c-addiw-spec =
     (tie.spec
     (λ c κs. search needs)
     (λ c κs. search needs)
-    (λ c. rw (← c .before .before .rd-of .ensures .0, eq-eqb _ _ (c .before .if1 .taken)) (c .none .ensures _ _ _ refl))
+    (λ c. rw (← c .before .before .rd-of .ensures .0, eq-eqb _ _ (c .before .if1 .taken)) (c .none .ensures _ _ _ _ (c .before .before .before .pre .1) refl))
     (λ c κs. search needs)
     (λ c κs. search needs)
     (λ c κs. search needs)
@@ -23,4 +23,4 @@ emit-c-addiw-spec =
     (λ c κs. search needs)
     (λ c κs. search needs)
     (λ c κs. search needs)
-    (λ c. rw (← c .before .before .before .before .before .before .before .before .before .before .rd-of .ensures .0, ne-eqb _ _ (c .before .before .before .before .before .before .before .before .before .if1 .left)) (c .go-on .ensures _ _ _ (rw (c .before .store .ensures, c .before .before .emit2 .ensures, c .before .before .before .sxtw-x .ensures, c .before .before .before .before .emit .ensures, c .before .before .before .before .before .add-x .ensures, c .before .before .before .before .before .before .mov-imm64 .ensures, c .before .before .before .before .before .before .before .imm-ci .ensures, c .before .before .before .before .before .before .before .before .load .ensures, imm-ci-is (c .before .before .before .before .before .before .before .before .before .before .before .args .instr))))))
+    (λ c. rw (← c .before .before .before .before .before .before .before .before .before .before .before .before .before .before .before .rd-of .ensures .0, ne-eqb _ _ (c .before .before .before .before .before .before .before .before .before .before .before .before .before .before .if1 .left)) (c .go-on .ensures _ _ _ _ (c .before .store .ensures .long) (rw (c .before .store .ensures .holds, c .before .before .before .emit2 .ensures .holds, c .before .before .before .before .sxtw-x .ensures, c .before .before .before .before .before .before .emit .ensures .holds, c .before .before .before .before .before .before .before .add-x .ensures, c .before .before .before .before .before .before .before .before .before .mov-imm64 .ensures .holds, c .before .before .before .before .before .before .before .before .before .before .imm-ci .ensures, c .before .before .before .before .before .before .before .before .before .before .before .before .load .ensures .holds, imm-ci-is (c .before .before .before .before .before .before .before .before .before .before .before .before .before .before .before .before .args .instr))))))

@@ -23,4 +23,4 @@ emit-c-branch-spec =
     (λ c κs. search needs)
     (λ c κs. search needs)
     (λ c κs. search needs)
-    (λ c. c .terminate .ensures _ _ _ (rw (c .before .emit2 .ensures, c .before .before .csel-x .ensures, c .before .before .before .c-condition .ensures .0, c .before .before .before .before .mov-imm643 .ensures, c .before .before .before .before .before .wrapping-add-u642 .ensures, c .before .before .before .before .before .before .mov-imm642 .ensures, c .before .before .before .before .before .before .before .wrapping-add-u64 .ensures, c .before .before .before .before .before .before .before .before .imm-cb .ensures, c .before .before .before .before .before .before .before .before .before .emit .ensures, c .before .before .before .before .before .before .before .before .before .before .cmp-x .ensures, c .before .before .before .before .before .before .before .before .before .before .before .mov-imm64 .ensures, c .before .before .before .before .before .before .before .before .before .before .before .before .load .ensures, c .before .before .before .before .before .before .before .before .before .before .before .before .before .high-prime .ensures .0, imm-cb-is (c .before .before .before .before .before .before .before .before .before .before .before .before .before .before .args .instr)))))
+    (λ c. c .terminate .ensures _ _ _ _ (c .before .emit2 .ensures .long) (rw (c .before .emit2 .ensures .holds, c .before .before .csel-x .ensures, c .before .before .before .c-condition .ensures .0, c .before .before .before .before .before .mov-imm643 .ensures .holds, c .before .before .before .before .before .before .wrapping-add-u642 .ensures, c .before .before .before .before .before .before .before .before .mov-imm642 .ensures .holds, c .before .before .before .before .before .before .before .before .before .before .wrapping-add-u64 .ensures, c .before .before .before .before .before .before .before .before .before .before .before .imm-cb .ensures, c .before .before .before .before .before .before .before .before .before .before .before .before .emit .ensures .holds, c .before .before .before .before .before .before .before .before .before .before .before .before .before .cmp-x .ensures, c .before .before .before .before .before .before .before .before .before .before .before .before .before .before .before .mov-imm64 .ensures .holds, c .before .before .before .before .before .before .before .before .before .before .before .before .before .before .before .before .before .load .ensures .holds, c .before .before .before .before .before .before .before .before .before .before .before .before .before .before .before .before .before .before .high-prime .ensures .0, imm-cb-is (c .before .before .before .before .before .before .before .before .before .before .before .before .before .before .before .before .before .before .before .before .args .instr)))))

@@ -18,4 +18,4 @@ emit-c-jalr-spec =
     (λ c κs. search needs)
     (λ c κs. search needs)
     (λ c κs. search needs)
-    (λ c. c .terminate .ensures _ _ _ (rw (c .before .emit2 .ensures, c .before .before .orr-x .ensures, c .before .before .before .store .ensures, c .before .before .before .before .mov-imm642 .ensures, c .before .before .before .before .before .wrapping-add-u64 .ensures, c .before .before .before .before .before .before .emit .ensures, c .before .before .before .before .before .before .before .and-x .ensures, c .before .before .before .before .before .before .before .before .mov-imm64 .ensures, c .before .before .before .before .before .before .before .before .before .load .ensures))))
+    (λ c. c .terminate .ensures _ _ _ _ (c .before .emit2 .ensures .long) (rw (c .before .emit2 .ensures .holds, c .before .before .orr-x .ensures, c .before .before .before .before .store .ensures .holds, c .before .before .before .before .before .before .mov-imm642 .ensures .holds, c .before .before .before .before .before .before .before .wrapping-add-u64 .ensures, c .before .before .before .before .before .before .before .before .before .emit .ensures .holds, c .before .before .before .before .before .before .before .before .before .before .and-x .ensures, c .before .before .before .before .before .before .before .before .before .before .before .before .mov-imm64 .ensures .holds, c .before .before .before .before .before .before .before .before .before .before .before .before .before .before .load .ensures .holds))))

@@ -11,10 +11,10 @@ emit-c-jr-spec =
     tie.close
     (tie.spec
     (λ c κs. search needs)
-    (λ c. rw (eq-eqb _ _ (c .before .if1 .taken)) (c .none .ensures _ _ _ refl))
+    (λ c. rw (eq-eqb _ _ (c .before .if1 .taken)) (c .none .ensures _ _ _ _ (c .before .before .pre .2) refl))
     (λ c κs. search needs)
     (λ c κs. search needs)
     (λ c κs. search needs)
     (λ c κs. search needs)
     (λ c κs. search needs)
-    (λ c. rw (ne-eqb _ _ (c .before .before .before .before .before .if1 .left)) (c .terminate .ensures _ _ _ (rw (c .before .emit .ensures, c .before .before .and-x .ensures, c .before .before .before .mov-imm64 .ensures, c .before .before .before .before .load .ensures)))))
+    (λ c. rw (ne-eqb _ _ (c .before .before .before .before .before .before .before .before .if1 .left)) (c .terminate .ensures _ _ _ _ (c .before .emit .ensures .long) (rw (c .before .emit .ensures .holds, c .before .before .and-x .ensures, c .before .before .before .before .mov-imm64 .ensures .holds, c .before .before .before .before .before .before .load .ensures .holds)))))

@@ -9,4 +9,4 @@ pub emit-c-mv-spec : {M : Type 1} → statement M
 unfolding c-mv
 emit-c-mv-spec =
     tie.close
-    (tie.spec (λ c κs. search needs) (λ c. rw (eq-eqb _ _ (c .before .if1 .taken)) (c .none .ensures _ _ _ refl)) (λ c κs. search needs) (λ c κs. search needs) (λ c κs. search needs) (λ c. rw (ne-eqb _ _ (c .before .before .before .if1 .left)) (c .go-on .ensures _ _ _ (rw (c .before .store .ensures, c .before .before .load .ensures)))))
+    (tie.spec (λ c κs. search needs) (λ c. rw (eq-eqb _ _ (c .before .if1 .taken)) (c .none .ensures _ _ _ _ (c .before .before .pre .3) refl)) (λ c κs. search needs) (λ c κs. search needs) (λ c κs. search needs) (λ c. rw (ne-eqb _ _ (c .before .before .before .before .before .if1 .left)) (c .go-on .ensures _ _ _ _ (c .before .store .ensures .long) (rw (c .before .store .ensures .holds, c .before .before .before .load .ensures .holds)))))

@@ -13,9 +13,9 @@ emit-c-slli-spec =
     (tie.spec
     (λ c κs. search needs)
     (λ c κs. search needs)
-    (λ c. rw (← c .before .before .rd-of .ensures .0, eq-eqb _ _ (c .before .if1 .taken)) (c .none .ensures _ _ _ refl))
+    (λ c. rw (← c .before .before .rd-of .ensures .0, eq-eqb _ _ (c .before .if1 .taken)) (c .none .ensures _ _ _ _ (c .before .before .before .pre .1) refl))
     (λ c κs. search needs)
     (λ c κs. search needs)
     (λ c κs. search needs)
     (λ c κs. search needs)
-    (λ c. rw (← c .before .before .before .before .before .rd-of .ensures .0, ne-eqb _ _ (c .before .before .before .before .if1 .left)) (c .go-on .ensures _ _ _ (rw (c .before .with-imm .ensures, c .before .before .before .lslv-x .ensures, c .before .before .shamt-c .ensures, shamt-is (c .before .before .before .before .before .before .args .instr))))))
+    (λ c. rw (← c .before .before .before .before .before .before .rd-of .ensures .0, ne-eqb _ _ (c .before .before .before .before .before .if1 .left)) (c .go-on .ensures _ _ _ _ (c .before .with-imm .ensures .long) (rw (c .before .with-imm .ensures .holds, c .before .before .before .before .lslv-x .ensures, c .before .before .shamt-c .ensures, shamt-is (c .before .before .before .before .before .before .before .args .instr))))))

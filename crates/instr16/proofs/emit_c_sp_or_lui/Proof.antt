@@ -8,4 +8,4 @@ pub emit-c-sp-or-lui-spec : {M : Type 1} → statement M
 unfolding c-addi16sp-lui
 emit-c-sp-or-lui-spec =
     tie.close
-    (tie.spec (λ c κs. search needs) (λ c κs. search needs) (λ c. rw (← c .before .before .rd-of .ensures .0, eq-eqb _ _ (c .before .if1 .taken)) (c .emit-c-addi16sp .ensures)) (λ c κs. search needs) (λ c. rw (← c .before .before .rd-of .ensures .0, ne-eqb _ _ (c .before .if1 .left)) (c .emit-c-lui .ensures)))
+    (tie.spec (λ c κs. search needs) (λ c κs. search needs) (λ c. rw (← c .before .before .before .rd-of .ensures .0, eq-eqb _ _ (c .before .before .if1 .taken)) (c .emit-c-addi16sp .ensures)) (λ c κs. search needs) (λ c. rw (← c .before .before .before .rd-of .ensures .0, ne-eqb _ _ (c .before .before .if1 .left)) (c .emit-c-lui .ensures)))

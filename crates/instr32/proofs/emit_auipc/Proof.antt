@@ -8,4 +8,4 @@ pub emit-auipc-spec : {M : Type 1} → statement M
 unfolding auipc
 emit-auipc-spec =
     tie.close
-    (tie.spec (λ c κs. search needs) (λ c κs. search needs) (λ c κs. search needs) (λ c κs. search needs) (λ c. c .go-on .ensures _ _ _ (rw (c .before .mov-reg .ensures, c .before .before .wrapping-add-u64 .ensures, c .before .before .before .imm-u .ensures, imm-u-is (c .before .before .before .before .args .instr) (c .before .before .before .before .fits .instr .fits)))))
+    (tie.spec (λ c κs. search needs) (λ c κs. search needs) (λ c κs. search needs) (λ c κs. search needs) (λ c. c .go-on .ensures _ _ _ _ (c .before .mov-reg .ensures .long) (rw (c .before .mov-reg .ensures .holds, c .before .before .before .wrapping-add-u64 .ensures, c .before .before .before .before .imm-u .ensures, imm-u-is (c .before .before .before .before .before .args .instr) (c .before .before .before .before .before .fits .instr .fits)))))

@@ -17,4 +17,4 @@ emit-jal-spec =
     (λ c κs. search needs)
     (λ c κs. search needs)
     (λ c κs. search needs)
-    (λ c. c .terminate .ensures _ _ _ (rw (c .before .mov-imm64 .ensures, c .before .before .wrapping-add-u642 .ensures, c .before .before .before .imm-j .ensures, c .before .before .before .before .mov-reg .ensures, c .before .before .before .before .before .wrapping-add-u64 .ensures, imm-j-is (c .before .before .before .before .before .before .args .instr) (c .before .before .before .before .before .before .fits .instr .fits), map-append, emitted-all-append))))
+    (λ c. c .terminate .ensures _ _ _ _ (c .before .mov-imm64 .ensures .long) (rw (c .before .mov-imm64 .ensures .holds, c .before .before .before .wrapping-add-u642 .ensures, c .before .before .before .before .imm-j .ensures, c .before .before .before .before .before .mov-reg .ensures .holds, c .before .before .before .before .before .before .wrapping-add-u64 .ensures, imm-j-is (c .before .before .before .before .before .before .before .before .args .instr) (c .before .before .before .before .before .before .before .before .fits .instr .fits), map-append, emitted-all-append))))

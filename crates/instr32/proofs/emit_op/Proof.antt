@@ -15,5 +15,5 @@ emit-op-spec =
     (λ c. search needs)
     (λ c. search needs)
     (λ c κs. search needs)
-    (λ c κs. search needs)
-    (λ c. first _ _ _ (load 9 (c .before .before .before .before .before .args .d .rs1) ∷ load 10 (c .before .before .before .before .before .args .d .rs2) ∷ []) _ _ (c .before .before .before .before .load-both .ensures) (then _ _ _ _ _ _ (c .before .emit-op-arm .ensures (c .before .before .before .before .before .args .slot-offset)) (c .store-rd .ensures))))
+    (λ c κs. (search needs, search needs, c .before .emit-op-arm .ensures 0 .long))
+    (λ c. first _ _ _ (load 9 (c .before .before .before .before .before .before .before .before .args .d .rs1) ∷ load 10 (c .before .before .before .before .before .before .before .before .args .d .rs2) ∷ []) _ _ _ (c .before .before .before .before .before .before .load-both .ensures .holds) (then _ _ _ _ _ _ _ _ (c .before .before .emit-op-arm .ensures (c .before .before .before .before .before .before .before .before .args .slot-offset)) (c .store-rd .ensures))))

@@ -16,5 +16,5 @@ emit-op-imm-spec =
     (λ c κs. search needs)
     (λ c. search needs)
     (λ c κs. search needs)
-    (λ c κs. search needs)
-    (λ c. rw (imm-i-is (c .before .before .before .before .before .args .instr) (c .before .before .before .before .before .fits .instr .fits), ← c .before .before .before .imm-i .ensures) (first _ _ _ (load 9 (c .before .before .before .before .before .args .d .rs1) ∷ []) _ _ (c .before .before .before .before .load .ensures) (then _ _ _ _ _ _ (c .before .emit-op-imm-arm .ensures (c .before .before .before .before .before .args .slot-offset)) (c .store-rd .ensures)))))
+    (λ c κs. (search needs, search needs, c .before .emit-op-imm-arm .ensures 0 .long))
+    (λ c. rw (imm-i-is (c .before .before .before .before .before .before .before .before .args .instr) (c .before .before .before .before .before .before .before .before .fits .instr .fits), ← c .before .before .before .before .before .imm-i .ensures) (first _ _ _ (load 9 (c .before .before .before .before .before .before .before .before .args .d .rs1) ∷ []) _ _ _ (c .before .before .before .before .before .before .load .ensures .holds) (then _ _ _ _ _ _ _ _ (c .before .before .emit-op-imm-arm .ensures (c .before .before .before .before .before .before .before .before .args .slot-offset)) (c .store-rd .ensures)))))

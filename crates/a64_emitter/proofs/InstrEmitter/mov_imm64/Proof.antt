@@ -5,7 +5,7 @@ use Rattle.a64_emitter.proofs.InstrEmitter.mov_imm64.Tie as tie
 
 returns : tie.Need-returns
 unfolding held
-returns c = c .instr-constant .ensures .holds
+returns c = let e = rw (c .before .before .pre .1) at (c .mov-imm64-at .ensures) in record { long = e .long; holds = e .holds }
 
 pub mov-imm64-spec : {M : Type 1} → statement M
 mov-imm64-spec = tie.close (tie.spec (λ c κs. search needs) returns)

@@ -24,7 +24,7 @@ chosen h slot-offset None rd = emitted-none _ h
 
 returns : tie.Need-returns
 returns c =
-    (rw (c .emit-if .ensures, c .before .str-x .ensures, c .before .before .reg-off .ensures .0, c .before .before .before .stores .ensures) (chosen _ _ _ _), refl)
+    (record { long = c .emit-if .ensures .long; holds = rw (c .emit-if .ensures .holds, c .before .str-x .ensures, c .before .before .reg-off .ensures .0, c .before .before .before .before .stores .ensures) (chosen _ _ _ _) }, refl)
 
 pub store-rd-spec : {M : Type 1} → statement M
 store-rd-spec =

@@ -16,4 +16,4 @@ emit-remainder-spec =
     (λ c κs. search needs)
     (λ c κs. search needs)
     (λ c κs. search needs)
-    (λ c. rw (c .emit5 .ensures, c .before .csel-x .ensures, c .before .before .emit4 .ensures, c .before .before .before .cmp-x .ensures, c .before .before .before .before .mov-imm64 .ensures, c .before .before .before .before .before .emit3 .ensures, c .before .before .before .before .before .before .sub-x .ensures, c .before .before .before .before .before .before .before .emit2 .ensures, c .before .before .before .before .before .before .before .before .mul-x .ensures, c .before .before .before .before .before .before .before .before .before .emit .ensures)))
+    (λ c. record { long = c .emit5 .ensures .long; holds = rw (c .emit5 .ensures .holds, c .before .csel-x .ensures, c .before .before .before .emit4 .ensures .holds, c .before .before .before .before .cmp-x .ensures, c .before .before .before .before .before .before .mov-imm64 .ensures .holds, c .before .before .before .before .before .before .before .before .emit3 .ensures .holds, c .before .before .before .before .before .before .before .before .before .sub-x .ensures, c .before .before .before .before .before .before .before .before .before .before .before .emit2 .ensures .holds, c .before .before .before .before .before .before .before .before .before .before .before .before .mul-x .ensures, c .before .before .before .before .before .before .before .before .before .before .before .before .before .before .emit .ensures .holds) }))

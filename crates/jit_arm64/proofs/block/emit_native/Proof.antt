@@ -6,18 +6,18 @@ use Rattle.jit_arm64.proofs.block.emit_native.Tie as tie
 
 returns : tie.Need-returns
 returns c =
-    let s = c .before .before .before in
+    let s = c .before .before .before .before in
     let a = s .args in
-    let w = c .before .before .if1 .taken in
+    let w = c .before .before .before .if1 .taken in
     let n = s .pre .1 w in
-    compiled (a .host .«slot_offset») (a .host) (a .pc) (a .instr) (native16 (a .host) (a .pc) (a .instr) _ (omega arith) w) (c .before .new .ensures) (c .emit-native-instr16 .ensures)
+    compiled (a .host .«slot_offset») (a .host) (a .pc) (a .instr) (native16 (a .host) (a .pc) (a .instr) _ (omega arith) w) (c .before .before .new .ensures _) (c .emit-native-instr16 .ensures)
 
 returns-2 : tie.Need-returns-2
 returns-2 c =
-    let s = c .before .before .before .before in
+    let s = c .before .before .before .before .before in
     let a = s .args in
-    let w = c .before .before .before .if1 .left in
-    compiled (a .host .«slot_offset») (a .host) (a .pc) (a .instr) (native32 (a .host) (a .pc) (a .instr) _ (c .before .before .decode32 .ensures) (omega arith)) (c .before .new2 .ensures) (c .emit-native-instr .ensures)
+    let w = c .before .before .before .before .if1 .left in
+    compiled (a .host .«slot_offset») (a .host) (a .pc) (a .instr) (native32 (a .host) (a .pc) (a .instr) _ (c .before .before .before .decode32 .ensures) (omega arith)) (c .before .before .new2 .ensures _) (c .emit-native-instr .ensures)
 
 pub emit-native-spec : {M : Type 1} → statement M
 emit-native-spec =

@@ -5,7 +5,7 @@ use mathlib.Core.Path.{_≡_, refl, sym, _∙_}
 use mathlib.Core.Bool.{false}
 use mathlib.Core.Logic.{⊎-elim}
 use lib.ListN.{length}
-use Rattle.a64_emitter.specs.Parts.{held}
+use Rattle.a64_emitter.specs.Parts.{held, InstrArray}
 use Rattle.jit_arm64.specs.Parts.{Walking}
 use Rattle.jit_arm64.proofs.Flows.{goes-on, not-terminate}
 use Rattle.jit_arm64.proofs.Walking.{at-limit, filled, not-fetched, size-4, on, by-end, by-fence, by-helper, uncovered}
@@ -13,26 +13,26 @@ use Rattle.jit_arm64.proofs.block.walk.Statement.{statement}
 use Rattle.jit_arm64.proofs.block.walk.Tie as tie
 
 abbrev Inv-loop : tie.InvT-loop
-Inv-loop words₀ guest start most host len₀ i₀ n₀ fence₀ full₀ room words len i n fence full =
-    Walking host guest start most words len i n × (fence ≡ false) × (full ≡ false) × (length words ≡ length words₀) × (n₀ ≤ n)
+Inv-loop words₀ guest start most host len₀ i₀ n₀ fence₀ full₀ part₀ room words len i n fence full part =
+    Walking host guest start most words len i n × (fence ≡ false) × (full ≡ false) × (length words ≡ length words₀) × (n₀ ≤ n) × InstrArray part
 
 abbrev μ-loop : tie.MeasureT-loop
-μ-loop words₀ guest start most host len₀ i₀ n₀ fence₀ full₀ room words len i n fence full = most - n
+μ-loop words₀ guest start most host len₀ i₀ n₀ fence₀ full₀ part₀ room words len i n fence full part = most - n
 
 loop-holds : tie.Need-loop-holds Inv-loop μ-loop
-loop-holds c = (c .before .before .pre .3, refl, refl, refl, omega arith)
+loop-holds c = (c .before .before .pre .3, refl, refl, refl, omega arith, refl)
 
 emit-native-requires : tie.Need-emit-native-requires Inv-loop μ-loop
-emit-native-requires c κs = (c .before .before .before .before .before .before .before .before .before .pre .1, c .before .before .fetch .ensures .narrow)
+emit-native-requires c κs = (c .before .before .before .before .before .before .before .before .before .before .pre .1, c .before .before .before .fetch .ensures .narrow, c .before .before .before .before .before .before .before .loop .inv .5)
 
 emit-term-helper-requires : tie.Need-emit-term-helper-requires Inv-loop μ-loop
-emit-term-helper-requires c κs = (c .before .before .before .before .before .before .before .before .before .before .before .before .before .pre .1, c .before .before .before .before .before .before .fetch .ensures .narrow, omega (arith, c .before .before .before .before .before .before .before .before .before .before .before .before .before .pre .2, c .before .before .before .before .before .before .before .before .before .before .loop .inv .0 .upto), c .before .before .before .emit-native .ensures .holds)
+emit-term-helper-requires c κs = (c .before .before .before .before .before .before .before .before .before .before .before .before .before .before .before .pre .1, c .before .before .before .before .before .before .before .before .fetch .ensures .narrow, omega (arith, c .before .before .before .before .before .before .before .before .before .before .before .before .before .before .before .pre .2, c .before .before .before .before .before .before .before .before .before .before .before .before .loop .inv .0 .upto), c .before .before .before .before .emit-native .ensures .holds, c .before .before .before .before .emit-native .ensures .long)
 
 append-at-requires : tie.Need-append-at-requires Inv-loop μ-loop
-append-at-requires c κs = (omega (arith, c .before .before .before .before .before .before .before .before .before .before .before .before .before .before .before .before .before .pre .0, c .before .before .before .before .before .before .before .before .before .before .before .before .before .before .loop .inv .3, c .before .before .before .before .before .before .before .before .before .before .before .before .if2 .left), search needs)
+append-at-requires c κs = (omega (arith, c .before .before .before .before .before .before .before .before .before .before .before .before .before .before .before .before .before .before .pre .0, c .before .before .before .before .before .before .before .before .before .before .before .before .before .before .before .loop .inv .3, c .before .before .before .before .before .before .before .before .before .before .before .before .before .if2 .left), search needs)
 
 add-n : tie.Need-add-n Inv-loop μ-loop
-add-n c = omega (arith, c .before .before .before .before .before .before .before .before .before .before .before .before .before .before .before .before .before .before .before .before .before .before .pre .2, c .before .before .before .before .before .before .before .before .before .before .before .before .before .before .before .before .before .before .before .loop .inv .0 .upto)
+add-n c = omega (arith, c .before .before .before .before .before .before .before .before .before .before .before .before .before .before .before .before .before .before .before .before .before .before .before .pre .2, c .before .before .before .before .before .before .before .before .before .before .before .before .before .before .before .before .before .before .before .before .loop .inv .0 .upto)
 
 append-at-requires-2 : tie.Need-append-at-requires-2 Inv-loop μ-loop
 append-at-requires-2 c κs = (omega (arith, c .before .before .before .before .before .before .before .before .before .before .before .before .before .before .pre .0, c .before .before .before .before .before .before .before .before .before .before .before .loop .inv .3, c .before .before .before .before .before .before .before .before .before .if2 .left), search needs)
@@ -61,11 +61,12 @@ loop-again c =
     let z = c .before .before .before .before .before .before .before .before .before .before .before .before .before .before .before .before .before .before .before .before .before .pre .0 in
     let long = v .3 in
     let r = c .before .before .before .before .before .before .before .before .before .before .before .before .before .before .before .before .if2 .left in (
-      on k (v .0) (v .3) (v .4) (c .before .before .before .before .before .before .before .before .before .before .before .before .before .before .before .before .before .if1 .left) (omega arith) (c .before .before .before .before .before .before .before .before .before .before .before .before .before .before .before .wrapping-add-u64 .ensures) (c .before .before .before .before .before .before .before .before .before .before .before .before .before .before .fetch .ensures) (c .before .before .before .before .before .before .before .before .before .before .before .before .if3 .left) (c .before .before .before .before .before .before .before .before .before .before .before .emit-native .ensures) (c .before .before .before .before .before .before .append-at2 .ensures) (goes-on _ (c .before .before .before .before .before .before .before .before .before .before .match .keys2) (c .before .before .match3 .keys2)) (sym (c .before .is-fence-i .ensures) ∙ c .if4 .left),
+      on k (v .0) (v .3) (v .4) (c .before .before .before .before .before .before .before .before .before .before .before .before .before .before .before .before .before .if1 .left) (omega arith) (c .before .before .before .before .before .before .before .before .before .before .before .before .before .before .before .wrapping-add-u64 .ensures) (c .before .before .before .before .before .before .before .before .before .before .before .before .before .before .fetch .ensures) (c .before .before .before .before .before .before .before .before .before .before .before .before .if3 .left) (c .before .before .before .before .before .before .before .before .before .before .emit-native .ensures) (c .before .before .before .before .before .before .append-at2 .ensures) (goes-on _ (c .before .before .before .before .before .before .before .before .before .match .keys2) (c .before .before .match3 .keys2)) (sym (c .before .is-fence-i .ensures) ∙ c .if4 .left),
       v .1,
       v .2,
       c .before .before .before .before .before .before .append-at2 .ensures .long ∙ v .3,
       omega (arith, v .4),
+      c .before .before .before .before .before .before .before .before .before .before .emit-native .ensures .long,
     )
 
 returns : tie.Need-returns Inv-loop μ-loop
@@ -79,10 +80,10 @@ returns c =
     (⊎-elim (λ t. rw (t .1, t .2, t .3, t .4, t .5, t .6, t .7, v .1, v .2) (at-limit k (v .0) (v .3) (v .4) (t .0 .taken)))
     (⊎-elim (λ t. let r = t .1 .taken in rw (t .2, t .3, t .4, t .5, t .6, t .7, t .8) (filled k (v .0) (v .3) (v .4) z (t .0 .left) (omega arith) _ _))
     (⊎-elim (λ t. let r = t .1 .left in rw (t .6, t .7, t .8, t .9, t .10, t .11, t .12, v .1, v .2) (not-fetched k (v .0) (v .3) (v .4) (t .0 .left) (omega arith) (t .2 .ensures) (t .3 .ensures) (t .5 .taken)))
-    (⊎-elim (λ t. let r = t .1 .left in rw (t .19, t .20, t .21, t .22, t .23, t .24, t .25, v .1, v .2) (by-helper k (v .0) (v .3) (v .4) (t .0 .left) (omega arith) (t .2 .ensures) (t .3 .ensures) (t .5 .left) (t .6 .ensures) (t .8 .given .1) (t .10 .ensures) (t .14 .ensures) (t .18 .given .1)))
-    (⊎-elim (λ t. let r = t .1 .left in rw (t .18, t .19, t .20, t .21, t .22, t .23, t .24, v .1, v .2) (uncovered k (v .0) (v .3) (v .4) (t .0 .left) (omega arith) (t .2 .ensures) (t .3 .ensures) (t .5 .left) (t .6 .ensures) (t .8 .given .1) (t .10 .ensures) (t .14 .ensures) (not-terminate _ (t .17 .keys2))))
-    (⊎-elim (λ t. let r = t .1 .left in rw (t .17, t .18, t .19, t .20, t .21, t .22, t .23, v .1, v .2) (by-end k (v .0) (v .3) (v .4) (t .0 .left) (omega arith) (t .2 .ensures) (t .3 .ensures) (t .5 .left) (t .6 .ensures) (t .11 .ensures) (t .16 .given .1)))
-    (λ t. let r = t .1 .left in rw (t .18, t .19, t .20, t .21, t .22, t .23, t .24, v .2) (by-fence k (v .0) (v .3) (v .4) (t .0 .left) (omega arith) (t .2 .ensures) (t .3 .ensures) (t .5 .left) (t .6 .ensures) (t .11 .ensures) (goes-on _ (t .7 .keys2) (t .15 .keys2)) (sym (t .16 .ensures) ∙ t .17 .taken))))))))
+    (⊎-elim (λ t. let r = t .1 .left in rw (t .20, t .21, t .22, t .23, t .24, t .25, t .26, v .1, v .2) (by-helper k (v .0) (v .3) (v .4) (t .0 .left) (omega arith) (t .2 .ensures) (t .3 .ensures) (t .5 .left) (t .7 .ensures) (t .9 .given .1) (t .12 .ensures) (t .15 .ensures) (t .19 .given .1)))
+    (⊎-elim (λ t. let r = t .1 .left in rw (t .19, t .20, t .21, t .22, t .23, t .24, t .25, v .1, v .2) (uncovered k (v .0) (v .3) (v .4) (t .0 .left) (omega arith) (t .2 .ensures) (t .3 .ensures) (t .5 .left) (t .7 .ensures) (t .9 .given .1) (t .12 .ensures) (t .15 .ensures) (not-terminate _ (t .18 .keys2))))
+    (⊎-elim (λ t. let r = t .1 .left in rw (t .17, t .18, t .19, t .20, t .21, t .22, t .23, v .1, v .2) (by-end k (v .0) (v .3) (v .4) (t .0 .left) (omega arith) (t .2 .ensures) (t .3 .ensures) (t .5 .left) (t .7 .ensures) (t .11 .ensures) (t .16 .given .1)))
+    (λ t. let r = t .1 .left in rw (t .18, t .19, t .20, t .21, t .22, t .23, t .24, v .2) (by-fence k (v .0) (v .3) (v .4) (t .0 .left) (omega arith) (t .2 .ensures) (t .3 .ensures) (t .5 .left) (t .7 .ensures) (t .11 .ensures) (goes-on _ (t .8 .keys2) (t .15 .keys2)) (sym (t .16 .ensures) ∙ t .17 .taken))))))))
     (c .before .if1 .came))
 
 same-length : tie.Need-same-length Inv-loop μ-loop
