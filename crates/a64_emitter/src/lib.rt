@@ -108,25 +108,11 @@ fn mov_imm64_at_if(words: &mut [u32], at: usize, test: bool, rd: u8, val: u64) -
     at
 }
 
-// How many words an instruction's emitter holds: its count, or all where that is more.
-fn instr_count(len: usize) -> usize
-    ensures { λ r. ⌜ r ≡ min len instr-words ⌝ }
+// How many words an emitter with room for `room` holds: its count, or all where that is more.
+fn count_of(len: usize, room: usize) -> usize
+    ensures { λ r. ⌜ r ≡ min len room ⌝ }
 {
-    if len < INSTR_WORDS { len } else { INSTR_WORDS }
-}
-
-// The same of a block's.
-fn block_count(len: usize) -> usize
-    ensures { λ r. ⌜ r ≡ min len max-words ⌝ }
-{
-    if len < MAX_WORDS { len } else { MAX_WORDS }
-}
-
-// And of a short one's.
-fn short_count(len: usize) -> usize
-    ensures { λ r. ⌜ r ≡ min len short-words ⌝ }
-{
-    if len < SHORT_WORDS { len } else { SHORT_WORDS }
+    if len < room { len } else { room }
 }
 
 // An instruction's words after the first `at` of a block, where there is room for its whole array: all of that is moved, and
@@ -139,7 +125,7 @@ pub fn append_at(words: &mut [u32], at: usize, part: &[u32; INSTR_WORDS], len: u
     if len == 0 {
         return at;
     }
-    let n = instr_count(len);
+    let n = count_of(len, INSTR_WORDS);
     let part = *part;
     let mut i = 0;
     while i < INSTR_WORDS {
@@ -170,6 +156,23 @@ fn write_word(out: &mut [u8], at: usize, w: u32)
     out[at + 1] = (w / 0x100 % 256) as u8;
     out[at + 2] = (w / 0x1_0000 % 256) as u8;
     out[at + 3] = (w / 0x100_0000 % 256) as u8;
+}
+
+// The words that a block's array holds, as bytes at the front of `out`, where they fit; how many bytes they are.
+fn write_words(words: &[u32], len: usize, out: &mut [u8]) -> usize
+    requires { ⌜ length (now words) ≤ max-words ⌝ }
+    ensures { λ r. ⌜ Written (take len (now (words .entry))) (now (out .entry)) r (now (out .exit)) ⌝ }
+{
+    let n = count_of(len, words.len());
+    if out.len() < 4 * n {
+        return 4 * n;
+    }
+    let mut i = 0;
+    while i < n {
+        write_word(out, 4 * i, words[i]);
+        i += 1;
+    }
+    4 * n
 }
 
 impl InstrEmitter {
@@ -227,6 +230,13 @@ fn short_constant(words: &mut [u32; SHORT_WORDS], at: usize, test: bool, rd: u8,
     mov_imm64_at_if(words, at, test, rd, val)
 }
 
+fn write_short(words: &[u32; SHORT_WORDS], len: usize, out: &mut [u8]) -> usize
+    requires { ⌜ length (now words) ≡ short-words ⌝ }
+    ensures { λ r. ⌜ Written (take len (now (words .entry))) (now (out .entry)) r (now (out .exit)) ⌝ }
+{
+    write_words(words, len, out)
+}
+
 impl ShortEmitter {
     pub fn new() -> Self
         ensures { λ r. ⌜ short-block-words r ≡ [] ⌝ }
@@ -262,16 +272,7 @@ impl ShortEmitter {
     pub fn finish(self, out: &mut [u8]) -> usize
         ensures { λ r. ⌜ Written (short-block-words self) (now (out .entry)) r (now (out .exit)) ⌝ }
     {
-        let n = short_count(self.len);
-        if out.len() < 4 * n {
-            return 4 * n;
-        }
-        let mut i = 0;
-        while i < n {
-            write_word(out, 4 * i, self.words[i]);
-            i += 1;
-        }
-        4 * n
+        write_short(&self.words, self.len, out)
     }
 }
 
@@ -287,6 +288,13 @@ fn long_constant(words: &mut [u32; MAX_WORDS], at: usize, test: bool, rd: u8, va
     ensures { λ r. ⌜ Added max-words (now (words .entry)) at (now (words .exit)) r (constant-if «test» rd val) ⌝ }
 {
     mov_imm64_at_if(words, at, test, rd, val)
+}
+
+fn write_long(words: &[u32; MAX_WORDS], len: usize, out: &mut [u8]) -> usize
+    requires { ⌜ length (now words) ≡ max-words ⌝ }
+    ensures { λ r. ⌜ Written (take len (now (words .entry))) (now (out .entry)) r (now (out .exit)) ⌝ }
+{
+    write_words(words, len, out)
 }
 
 impl A64Emitter {
@@ -324,15 +332,6 @@ impl A64Emitter {
     pub fn finish(self, out: &mut [u8]) -> usize
         ensures { λ r. ⌜ Written (block-words self) (now (out .entry)) r (now (out .exit)) ⌝ }
     {
-        let n = block_count(self.len);
-        if out.len() < 4 * n {
-            return 4 * n;
-        }
-        let mut i = 0;
-        while i < n {
-            write_word(out, 4 * i, self.words[i]);
-            i += 1;
-        }
-        4 * n
+        write_long(&self.words, self.len, out)
     }
 }

@@ -38,7 +38,7 @@ returns-2 : tie.Need-returns-2 Inv-loop μ-loop
 returns-2 c =
     let a = c .before .before .before .before .before .before .args in
     let l = c .before .loop in
-    let k = c .before .before .before .instr-count in
+    let k = c .before .before .before .count-of in
     let lp : length (a .part .now) ≡ instr-words = c .before .before .before .before .before .before .pre .1 in
     let lw = c .before .before .before .before .before .before .pre .0 in
     let e : l .i ≡ instr-words = omega arith in

@@ -1,69 +1,11 @@
-use native.Mathlib.Omega.{arith}
 use borrow.Author.Needs.{needs}
-use Prim.Native.Nat.{_≤_, _-_}
-use mathlib.Core.Path.{_≡_, _∙_}
-use lib.ListN.{length, take}
-use Rattle.rules.specs.Limits.{max-words}
-use Rattle.le.specs.Le.{all-bytes}
-use Rattle.le.specs.Parts.{over}
-use Rattle.le.proofs.Lists.{write-more}
 use Rattle.a64_emitter.specs.Parts.{block-words}
-use Rattle.a64_emitter.proofs.Emission.{all-written, none-written}
 use Rattle.a64_emitter.proofs.A64Emitter.finish.Statement.{statement}
 use Rattle.a64_emitter.proofs.A64Emitter.finish.Tie as tie
 
-abbrev Inv-loop : tie.InvT-loop
-Inv-loop out₀ self n i₀ out i = (i ≤ n) × (length out ≡ length out₀) × (out ≡ over 4 (take i (self .words)) out₀)
-
-abbrev μ-loop : tie.MeasureT-loop
-μ-loop out₀ self n i₀ out i = n - i
-
-returns : tie.Need-returns Inv-loop μ-loop
+returns : tie.Need-returns
 unfolding block-words
-returns c =
-    let a = c .before .before .before .args in
-    rw (c .before .block-count .ensures) (none-written max-words (a .t1 .words) (a .out .now) (a .t1 .len) (search needs) (rw (c .before .block-count .ensures) at (c .if1 .taken)))
-
-loop-holds : tie.Need-loop-holds Inv-loop μ-loop
-unfolding all-bytes
-loop-holds c = search needs
-
-loop-again : tie.Need-loop-again Inv-loop μ-loop
-loop-again c =
-    let a = c .before .before .before .before .before .before .before .before .before .before .args in
-    let l = c .before .before .before .before .before .before .loop in
-    let k = c .before .before .before .before .before .before .before .before .block-count .ensures in
-    let w : length (a .t1 .words) ≡ max-words = search needs in
-    let s = c .before .before .write-word in
-    (search needs, s .kept .0 ∙ l .inv .1, write-more 4 (a .t1 .words) (a .out .now) _ _ (l .i) (omega arith) (l .inv .2) (s .ensures))
-
-returns-2 : tie.Need-returns-2 Inv-loop μ-loop
-unfolding block-words
-returns-2 c =
-    let a = c .before .before .before .before .before .args in
-    let l = c .before .loop in
-    let k = c .before .before .before .block-count in
-    let e : l .i ≡ k .result = omega arith in
-    rw (k .ensures) (all-written max-words (a .t1 .words) (a .out .now) (a .t1 .len) (search needs) (rw (k .ensures) at (c .before .before .if1 .left)) _ (rw (e, k .ensures) at (l .inv .2)))
+returns c = c .before .before .write-long .ensures
 
 pub finish-spec : {M : Type 1} → statement M
-finish-spec =
-    tie.close
-    (tie.spec
-    Inv-loop
-    μ-loop
-    (λ c κs. search needs)
-    (λ c. search needs)
-    (λ c. search needs)
-    returns
-    loop-holds
-    (λ c. search needs)
-    (λ c. search needs)
-    (λ c. search needs)
-    (λ c κs. search needs)
-    (λ c. search needs)
-    (λ c. search needs)
-    loop-again
-    (λ c. search needs)
-    (λ c. search needs)
-    returns-2)
+finish-spec = tie.close (tie.spec (λ c κs. search needs) (λ c. search needs) returns)
