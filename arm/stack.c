@@ -1,5 +1,5 @@
 /* The stack that each operation takes: a painted stack, its deepest changed byte over many seeded calls. Status 1
- * where Translate takes more than 12 KB or another more than 1 KB, as the header says. */
+ * where Translate takes more than 12 KB, or 4 KB with a limit of 8, or another more than 1 KB, as the header says. */
 #include "draw.h"
 
 #include <stdio.h>
@@ -44,6 +44,9 @@ static __attribute__((noinline)) void call(void)
         ip = hilofanur_index_place(index_bytes, store, sizeof store, 1, below(900), 9, output, 4 + 4 * below(9));
         break;
     case 8: il = hilofanur_index_lookup(index_bytes, 1, below(900)); break;
+    case 9:
+        t = hilofanur_translate(guest, sizeof guest, 0x1000, 8, true, 64, -1, -2, -3, output, sizeof output);
+        break;
     }
     __asm__ volatile("" ::"r"(&t), "r"(&a), "r"(&r), "r"(&l), "r"(&p), "r"(&ip), "r"(&il)
                      : "memory"); /* no tail call */
@@ -66,13 +69,13 @@ static size_t depth(void)
 int main(void)
 {
     static const char *names[] = {"translate", "place", "rv64_run", "a64_run", "a64_run_from", "list", "index_empty",
-        "index_place", "index_lookup"};
-    size_t deepest[9] = {0};
+        "index_place", "index_lookup", "translate, limit 8"};
+    size_t deepest[10] = {0};
     bool above = false;
     for (int round = 0; round < 3000; round++) {
         seed = round;
         guest_code(guest, sizeof guest);
-        for (operation = 0; operation < 9; operation++) {
+        for (operation = 0; operation < 10; operation++) {
             if (operation == 6 && round % 1000)
                 continue;
             uint64_t x0 = 0x8000 + 64, sp = 0x8000 + sizeof memory;
@@ -82,9 +85,9 @@ int main(void)
             deepest[operation] = used > deepest[operation] ? used : deepest[operation];
         }
     }
-    for (int n = 0; n < 9; n++) {
+    for (int n = 0; n < 10; n++) {
         printf("%s %zu\n", names[n], deepest[n]);
-        above |= deepest[n] > (n ? 1024 : 12288);
+        above |= deepest[n] > (n == 0 ? 12288 : n == 9 ? 4096 : 1024);
     }
     return above;
 }

@@ -30,7 +30,7 @@ fence-fields instr = opcode-by (eqb (instr % 128) 0x0F) refl
 pub fence-wide : (instr : ℕ) → is-fence-i instr ≡ true → is-32 instr ≡ true
 fence-wide instr t = eq-eqb (instr % 4) 3 (omega (arith, fence-fields instr t .0))
 
--- it is inline, and the Rust goes on behind it
+-- it is inline, and the Rust goes on after it
 pub fence-goes-on : (h : Host) (pc instr : ℕ) → is-fence-i instr ≡ true → emit-native h pc instr ≡ continue []
 unfolding emit-native emit-native-instr misc-mem
 fence-goes-on h pc instr t =

@@ -23,7 +23,7 @@ use Rattle.jit_arm64.specs.declared.block.Stop.the-variants.{Limit, Ende
 use Rattle.jit_arm64.specs.declared.block.Walked.{Walked}
 use Rattle.jit_arm64.specs.Block.{is-32, size-of, emit-native, emit-term-helper, fetch, walked, in-front, helped, step, instr-walk, walk, whole-walk}
 use Rattle.jit_arm64.specs.Fence.{is-fence-i, fence-or, to-fence, fence}
-use Rattle.jit_arm64.specs.Parts.{FetchedOf, Compiled, fence-walk, is-fenced, end-room, Walking, Walks, Onward}
+use Rattle.jit_arm64.specs.Parts.{FetchedOf, Compiled, fence-walk, is-fenced, end-room, helped-count, helped-stop, Walking, Walks, Onward}
 use Rattle.jit_arm64.proofs.Emitting.{Appended, put, words-append, words-size, Apart, native-size, native-apart, helped-size, uncovered-size}
 use Rattle.jit_arm64.proofs.Fetching.{is-none, is-some}
 use Rattle.jit_arm64.proofs.Refusals.{walk-count}
@@ -167,7 +167,7 @@ module _ {h : Host} {guest : List ℕ} {start limit m k₀ : ℕ} {l : List ℕ}
           let c : w .count ≡ n + suc (w .count - suc n) = omega (arith, walk-count h guest start (limit - suc n) (suc n) (i + r .size)) in
           rw (← ends Continue f) (ap (λ (m : ℕ). to-fence guest start m 0 0) c ∙ sym (searched (w .count - suc n)) ∙ rw q′ refl)
 
-      -- an instruction behind which the Rust does not go on is no FENCE.I
+      -- an instruction after which the Rust does not go on is no FENCE.I
       none-here : (e .flow ≡ Continue → ⊥) → to-fence guest start (n + 1) 0 0 ≡ none
       unfolding to-fence
       none-here other =
@@ -252,7 +252,7 @@ module _ {h : Host} {guest : List ℕ} {start limit m k₀ : ℕ} {l : List ℕ}
         apart : Apart (h .«slot_offset») e helper
         apart = let u = v .upto in native-apart (h .«slot_offset») h pc (r .instr) n (omega arith)
 
-        pub by-helper : out .flow ≡ Terminate → Done l′ len′ i (n + 1) Helper false
+        by-helper : out .flow ≡ Terminate → Done l′ len′ i (n + 1) Helper false
         unfolding step helped end-room
         by-helper t =
             let k = v .upto in
@@ -263,7 +263,7 @@ module _ {h : Host} {guest : List ℕ} {start limit m k₀ : ℕ} {l : List ℕ}
             let p = a .len in
             ended both i (n + 1) Helper (rw next (rw (sym (c .flow) ∙ t) at (ends None not-inline))) (none-here (λ z. let q : e .flow ≡ None = not-inline in let y : _≡_ {A = ℕ} 0 1 = cc in omega arith)) (with both (c .holds) added w) (omega arith) (omega arith) (a .long) (omega arith)
 
-        pub uncovered : (out .flow ≡ Terminate → ⊥) → Done l′ len′ i n Uncovered false
+        uncovered : (out .flow ≡ Terminate → ⊥) → Done l′ len′ i n Uncovered false
         unfolding step end-room
         uncovered t =
             let k = v .upto in
@@ -275,3 +275,10 @@ module _ {h : Host} {guest : List ℕ} {start limit m k₀ : ℕ} {l : List ℕ}
             let p = a .len in
             ended both i n Uncovered (rw (not-helped (helper .flow) both n (add start i) other) at (ends None not-inline)) none-yet (with both (c .holds) added (omega arith))
             (omega arith) (omega arith) (a .long) (omega arith)
+
+        -- by the flow that the helper's emitter answers
+        pub helped-on : (f : EmitFlow) → out .flow ≡ f → Done l′ len′ i (n + helped-count f) (helped-stop f) false
+        unfolding helped-count helped-stop
+        helped-on Terminate t = by-helper t
+        helped-on Continue t = let z : n + 0 ≡ n = omega arith in rw z (uncovered (λ u. let y : _≡_ {A = ℕ} 0 1 = cc in omega arith))
+        helped-on None t = let z : n + 0 ≡ n = omega arith in rw z (uncovered (λ u. let y : _≡_ {A = ℕ} 0 1 = cc in omega arith))

@@ -1,10 +1,11 @@
 -- What the functions of this crate promise one another; no operation's contract reaches it.
 use Prim.Native.Nat.{ℕ, _+_, _*_, _%_, _^_, _≤_, _<_}
-use mathlib.Core.Bool.{Bool, true, false, cond}
+use mathlib.Core.Bool.{Bool, true, false, cond, not}
 use mathlib.Core.List.{List}
 use mathlib.Core.Option.{Option, none, some}
 use mathlib.Core.Path.{_≡_}
 use lib.ListN.{length, take}
+use lib.Dec.{eqb}
 use Rattle.word.specs.Word.{add}
 use Rattle.rules.specs.Limits.{inline-words, end-words, max-words, max-instrs}
 use Rattle.a64_emitter.specs.Parts.{held, block-words, short-block-words, InstrArray}
@@ -73,6 +74,26 @@ has-return Ended = true
 has-return Limit = true
 has-return Uncovered = true
 has-return NotFetched = true
+
+-- by the flow of a helper's emitter: how many instructions it counts, and why the walk stops there
+unfoldable pub helped-count : EmitFlow → ℕ
+helped-count Terminate = 1
+helped-count Continue = 0
+helped-count None = 0
+
+unfoldable pub helped-stop : EmitFlow → Stop
+helped-stop Terminate = Helper
+helped-stop Continue = Uncovered
+helped-stop None = Uncovered
+
+-- whether a walk stopped for want of room: neither an instruction nor the limit did that
+unfoldable pub is-full : Stop → Bool → ℕ → ℕ → Bool
+is-full Limit false n most = not (eqb n most)
+is-full Limit true n most = false
+is-full Ended f n most = false
+is-full Helper f n most = false
+is-full Uncovered f n most = false
+is-full NotFetched f n most = false
 
 -- len words of l are those of n instructions, and the next is at index i; there is room for the block's end
 pub record Walking (h : Host) (guest : List ℕ) (start limit : ℕ) (l : List ℕ) (len i n : ℕ) : Type 0 where

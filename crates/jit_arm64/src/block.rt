@@ -9,7 +9,7 @@ ghost use Rattle.a64_emitter.specs.Parts.{held, short-block-words, block-words,
 ghost use Rattle.emit_native.specs.Calls as Calls;
 ghost use Rattle.jit_arm64.specs.Block.{emit-native, emit-term-helper};
 ghost use Rattle.jit_arm64.specs.Fence.{is-fence-i};
-ghost use Rattle.jit_arm64.specs.Parts.{Narrow, Compiled, Walking, Onward, Partly, ShortOf, LongOf, sets-next, has-return};
+ghost use Rattle.jit_arm64.specs.Parts.{Narrow, Compiled, Walking, Onward, Partly, ShortOf, LongOf, sets-next, has-return, helped-count, helped-stop, is-full};
 use crate::fetch::fetch;
 use a64_emitter::A64Emitter;
 use a64_emitter::InstrEmitter;
@@ -33,7 +33,7 @@ pub enum Stop {
     NotFetched,
 }
 
-// What the walk did: how many words there are, the index behind its last inline instruction, how many instructions, why
+// What the walk did: how many words there are, the index after its last inline instruction, how many instructions, why
 // it stopped, whether FENCE.I did that, and whether there was no room for one more.
 pub struct Walked {
     pub len: usize,
@@ -86,6 +86,38 @@ fn emit_term_helper(
     }
     let d = isa::decode::decode32(instr);
     term_helper::emit_native_term_helper32(em, words, host, pc, instr, d, emitted)
+}
+
+// How many instructions a helper's emitter counts, and why the walk stops there, by its flow.
+fn helped(flow: EmitFlow) -> u32
+    ensures { λ r. ⌜ r ≡ helped-count flow ⌝ }
+{
+    if let EmitFlow::Terminate = flow {
+        return 1;
+    }
+    0
+}
+
+fn helper_stop(flow: EmitFlow) -> Stop
+    ensures { λ r. ⌜ r ≡ helped-stop flow ⌝ }
+{
+    if let EmitFlow::Terminate = flow {
+        return Stop::Helper;
+    }
+    Stop::Uncovered
+}
+
+// Whether the walk stopped for want of room: neither an instruction nor the limit stopped it.
+fn is_full(stop: Stop, fence: bool, n: u32, most: u32) -> bool
+    ensures { λ r. ⌜ r ≡ is-full stop «fence» n most ⌝ }
+{
+    if let Stop::Limit = stop {
+        if fence {
+            return false;
+        }
+        return n != most;
+    }
+    false
 }
 
 // Whether the end of a block sets the next PC, and whether there is an end.
@@ -153,7 +185,7 @@ fn at_start() -> Walked
     }
 }
 
-// The instructions behind those of `from`, at most `most` in all and none behind FENCE.I: each by itself, its words appended,
+// The instructions after those of `from`, at most `most` in all and none after FENCE.I: each by itself, its words appended,
 // until there is no room for one more and the end.
 fn walk(words: &mut [u32], guest: &[u8], start: u64, from: Walked, most: u32, host: Host) -> Walked
     requires { ⌜ (inline-words + end-words ≤ length (now words)) × (host .«slot_offset» ≤ max-slot-offset) × (most ≤ max-instrs) × Walking host (now guest) start most (now words) (from .len) (from .i) (from .n) ⌝ }
@@ -163,15 +195,10 @@ fn walk(words: &mut [u32], guest: &[u8], start: u64, from: Walked, most: u32, ho
     let mut i: usize = from.i;
     let mut n: u32 = from.n;
     let mut fence = false;
-    let mut full = false;
     let mut part = [0u32; INSTR_WORDS];
     let room = words.len() - INLINE_WORDS - END_WORDS;
     let stop = loop {
-        if n == most {
-            break Stop::Limit;
-        }
-        if room < len {
-            full = true;
+        if n == most || room < len {
             break Stop::Limit;
         }
         let pc = std::num::wrapping_add_u64(start, i as u64);
@@ -186,11 +213,8 @@ fn walk(words: &mut [u32], guest: &[u8], start: u64, from: Walked, most: u32, ho
             let helper = emit_term_helper(left, &mut part, host, pc, found.instr, n);
             len = a64_emitter::append_at(words, len, &part, helper.em.len);
             let taken = helper.flow;
-            if let EmitFlow::Terminate = taken {
-                n += 1;
-                break Stop::Helper;
-            }
-            break Stop::Uncovered;
+            n += helped(taken);
+            break helper_stop(taken);
         }
         len = a64_emitter::append_at(words, len, &part, out.em.len);
         i += found.size;
@@ -203,7 +227,7 @@ fn walk(words: &mut [u32], guest: &[u8], start: u64, from: Walked, most: u32, ho
             break Stop::Limit;
         }
     };
-    stopped(len, i, n, stop, fence, full)
+    stopped(len, i, n, stop, fence, is_full(stop, fence, n, most))
 }
 
 fn walk_short(

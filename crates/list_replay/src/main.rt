@@ -81,7 +81,7 @@ fn wide(b: u8) -> u64 {
     b as u64
 }
 
-// Compares what List answers with what the file has behind the block.
+// Compares what List answers with what the file has after the block.
 fn replay_block(fd: i32, block: &[u8]) -> bool {
     let mut found = [0u8; 7];
     if io::read_full(fd, &mut found) < 7 {

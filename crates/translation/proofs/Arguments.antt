@@ -30,7 +30,7 @@ use Rattle.translation.proofs.Moves.{Move, from, constant, move-call, a
 use Rattle.translation.proofs.Instrs.{Fine, nothing}
 use Rattle.translation.proofs.Agree32.{digit}
 
--- behind the call: X30 and SP back, the prefix added to X1
+-- after the call: X30 and SP back, the prefix added to X1
 abbrev pub restoring : ℕ → List Call
 restoring n = emit (ldr-x 30 31 0) ∷ emit (add-sp-imm 16) ∷ if-not-0 n (mov-imm64 12 n ∷ emit (add-x 1 1 12) ∷ [])
 

@@ -1,4 +1,4 @@
--- The block of a walk that a helper ends: its words up to the call, and behind it. Assumes nothing.
+-- The block of a walk that a helper ends: its words up to the call, and after it. Assumes nothing.
 use mathlib.Core.Path.{_≡_, refl, sym, ap, _∙_}
 use mathlib.Core.Bool.{Bool, true, false, cond}
 use mathlib.Core.Logic.{_⊎_, inl, inr}
@@ -79,7 +79,7 @@ fetched guest hb pc index instr e = by (eqb (pc % 2) 0) (leb (index + 2) (length
     by true false c d p q e = never instr e
     by false b c d p q e = never instr e
 
--- ---- words behind others
+-- ---- words after others
 
 behind : (ws : List ℕ) (w : ℕ) (vs : List ℕ) → drop (suc (length ws)) (ws ++ (w ∷ vs)) ≡ vs
 behind [] w vs = refl
@@ -94,7 +94,7 @@ module _ (h : Host) (hm : h .«memory_helper» < 2 ^ 64) (h32 : h .helper32 < 2 
   abbrev o : ℕ
   o = h .«slot_offset»
 
-  -- the helper's calls, behind those of the instructions before it, from any model
+  -- the helper's calls, after those of the instructions before it, from any model
   module _ (s : State) (v₀ : Model) (κ₀ : Kept (reg s) true v₀) where
     abbrev run-from : Ran
     run-from = Rv64.run (h .«ignore_ebreak») (Rv64.clamped limit) 0 guest (Rv64.hart (v₀ .slots) pc)
@@ -160,7 +160,7 @@ module _ (h : Host) (hm : h .«memory_helper» < 2 ^ 64) (h32 : h .helper32 < 2 
     abbrev ahead : List Call
     ahead = y .front ++ a .early
 
-    -- up to the call, and behind it
+    -- up to the call, and after it
     abbrev ws : List ℕ
     ws = words o ahead ++ (words o (map move-call (a .moves)) ++ (sub-sp-imm 16 ∷ str-x 30 31 0 ∷ []))
 
@@ -267,7 +267,7 @@ module _ (h : Host) (hm : h .«memory_helper» < 2 ^ 64) (h32 : h .helper32 < 2 
     argument : (k : ℕ) → k < length (Spec.called h guest pc s g .arguments) → rs k ≡ getD (Spec.called h guest pc s g .arguments) k 0
     argument = rw u-is (at-each _ (Spec.called h guest pc s g .arguments) (a .arguments))
 
-    -- ---- behind the call
+    -- ---- after the call
 
     as-saved : Lowered o s σ saved
     as-saved = record { sp = refl; base = refl; size = length-store 8 (goes .0) (cell s) (reg passed 30) (omega (arith, at-cell)) ∙ goes .2 .size }

@@ -1,4 +1,4 @@
--- The words of a helper's call, and those behind it, on the machine. Assumes nothing.
+-- The words of a helper's call, and those after it, on the machine. Assumes nothing.
 use mathlib.Core.Path.{_≡_, refl, ap, _∙_}
 use mathlib.Core.Bool.{Bool, true, false}
 use mathlib.Core.List.{[], _∷_, _++_, flatten}
@@ -63,7 +63,7 @@ module _ (o : ℕ) (s : State) (σ : Stack o s) where
       (one-form (SubSp 16) t (with-sp t (lowered s)) (omega arith) (lowers t hs))
       (one-form (Str 30 31 0) (with-sp t (lowered s)) _ (omega arith) (stores (with-sp t (lowered s)) (record { sp = refl; base = hb; size = hl })))
 
-  -- ---- behind it
+  -- ---- after it
 
   -- the words that bring X30 and SP back and add the prefix n to X1, from t on; k: how many steps they take with RET
   abbrev pub Resumes : State → ℕ → Type 0

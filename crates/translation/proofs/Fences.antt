@@ -18,7 +18,7 @@ use Rattle.jit_arm64.specs.declared.block.Stop.{Stop}
 use Rattle.jit_arm64.proofs.Refusals.{walk-count}
 use Rattle.jit_arm64.proofs.Fences.{fence-wide, fence-goes-on}
 
--- how many instructions are left behind the one that was fetched; rest: from its length on
+-- how many instructions are left after the one that was fetched; rest: from its length on
 unfoldable pub behind : Option ℕ → (ℕ → ℕ) → ℕ
 behind none rest = 0
 behind (some instr) rest = cond (is-fence-i instr) 0 (rest (size-of instr))
@@ -49,7 +49,7 @@ module _ (h : Host) (guest : List ℕ) (start limit most : ℕ) where
     same : w left ≡ w to
     ends : (m : ℕ) → o ≡ some m → (w left .stop ≡ Stop.Limit) × (w left .count ≡ m)
 
-  -- the search behind an instruction that is no FENCE.I, and the search from one that was fetched
+  -- the search after an instruction that is no FENCE.I, and the search from one that was fetched
   after : ℕ → ℕ → ℕ → Option ℕ
   after zero n j = none
   after (suc m) n j = to-fence guest start m (suc n) j

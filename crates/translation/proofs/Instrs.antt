@@ -94,7 +94,7 @@ Matches n pc v x Flow.Uncovered e = Leaves e
 abbrev pub Agrees : ℕ → ℕ → Model → Instr → Emission → Type 0
 Agrees n pc v i e = Matches n pc v (exec i n pc (v .slots) .x) (exec i n pc (v .slots) .flow) e
 
--- FENCE.I instead: the guest's run ends behind it, where the Rust makes no call and goes on
+-- FENCE.I instead: the guest's run ends after it, where the Rust makes no call and goes on
 pub record Fences (i : Instr) (e : Emission) : Type 0 where
   pub instr : i ≡ Instr.FenceI
   pub emission : e ≡ continue []

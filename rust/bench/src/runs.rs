@@ -116,7 +116,7 @@ fn no_word() {
     );
 }
 
-/// What it costs to go on behind the call of a helper: the five words of a block of seven C.NOP and LD x10, 8(x11).
+/// What it costs to go on after the call of a helper: the five words of a block of seven C.NOP and LD x10, 8(x11).
 fn behind_a_call() {
     let guest = [&[1, 0].repeat(7)[..], &[0x03, 0xB5, 0x85, 0x00]].concat();
     let mut block = vec![0; LONGEST];

@@ -56,7 +56,7 @@ struct Machine {
 type Phrases<'a> = Vec<(&'a str, bool)>;
 
 impl Block<'_> {
-    /// The words behind the call: X30 loaded, SP back, the prefix added if not 0, RET.
+    /// The words after the call: X30 loaded, SP back, the prefix added if not 0, RET.
     fn behind(&self) -> u64 {
         if self.prefix == 0 {
             3
@@ -281,7 +281,7 @@ impl Compared for Helpers {
         Ok(kind)
     }
 
-    /// Kinds without a prefix, kinds behind one, and prefixes.
+    /// Kinds without a prefix, kinds after one, and prefixes.
     fn missed(&self) -> Vec<String> {
         let mut missed = Vec::new();
         for (name, met) in NAMES.iter().zip(&self.met) {

@@ -1,4 +1,4 @@
-//! The listing against the plain writer: refusals, length, every byte of the output and behind it, what the offset names.
+//! The listing against the plain writer: refusals, length, every byte of the output and after it, what the offset names.
 
 use crate::Compared;
 use draw::forms::is_a64;
@@ -7,7 +7,7 @@ use draw::{words, Random};
 use hilofanur::{boundary, LONGEST_LINE};
 use steppers::{list, ListAnswer};
 
-/// The bytes behind the output.
+/// The bytes after the output.
 const BEHIND: usize = 64;
 const REFUSALS: [u64; 4] = [0, 12, 13, 14];
 

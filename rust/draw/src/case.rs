@@ -95,7 +95,7 @@ pub struct HelperCase {
 }
 
 impl Guests {
-    /// Each kind as often, behind 0 to 63 instructions; the limit just reaches it or is higher.
+    /// Each kind as often, after 0 to 63 instructions; the limit just reaches it or is higher.
     pub fn helper_case(&self, random: &mut Random) -> HelperCase {
         let kind = random.below(HELPER_KINDS.len());
         let prefix = match random.below(16) {
@@ -177,7 +177,7 @@ mod tests {
     use crate::class::{first, Class};
 
     /// The classes of a question's instructions up to the first that is not Next, one beyond the limit at most; whether
-    /// FENCE.I stands right behind the last of them.
+    /// FENCE.I stands right after the last of them.
     fn walk(case: &Case) -> (Vec<Class>, bool) {
         let (mut at, mut classes) = (0, Vec::new());
         while let Some((class, size)) = first(&case.guest[at..], case.ignore_ebreak) {

@@ -6,7 +6,7 @@ pub enum Class {
     Next,
     /// Inline, and ends the block: a jump or a branch.
     Ends,
-    /// FENCE.I: inline, and ends the block. The Rust's block goes on behind it.
+    /// FENCE.I: inline, and ends the block. The Rust's block goes on after it.
     FenceI,
     Helper,
     Uncovered,

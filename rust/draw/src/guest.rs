@@ -186,7 +186,7 @@ impl Guests {
         guest
     }
 
-    /// A block of `length` inline instructions of all kinds, of which the last is FENCE.I, with as many behind it.
+    /// A block of `length` inline instructions of all kinds, of which the last is FENCE.I, with as many after it.
     pub fn plain_fenced(&self, random: &mut Random, length: usize) -> Vec<u8> {
         let mut guest = self.plain_straight(random, length - 1);
         guest.extend(bytes(encode(FENCE_I, random.next() as u32)));

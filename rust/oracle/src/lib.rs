@@ -1,4 +1,4 @@
-//! emuko's own translator, built from its source text, behind document 01's operations.
+//! emuko's own translator, built from its source text, under document 01's operations.
 
 mod emuko;
 pub mod program;

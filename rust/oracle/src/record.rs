@@ -155,7 +155,7 @@ fn after_nops(random: &mut Random, before: usize, forms: &[Form]) -> Vec<u8> {
     guest
 }
 
-/// FENCE.I at each place that matters, the limit before, at and behind it; the output enough, exactly so, a byte less.
+/// FENCE.I at each place that matters, the limit before, at and after it; the output enough, exactly so, a byte less.
 fn fence_places(random: &mut Random, cases: &mut Vec<Case>) {
     for before in [0, 1, 2, 3, 7, 61, 62, 63, 64] {
         for limit in [before.max(1), before + 1, before + 2, 64, 65, u32::MAX] {

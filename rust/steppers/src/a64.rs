@@ -291,7 +291,7 @@ mod tests {
         }
     }
 
-    /// Steps count from 0, and X30 is the address of the word behind BLR, whichever word was the first.
+    /// Steps count from 0, and X30 is the address of the word after BLR, whichever word was the first.
     #[test]
     fn begins_at_its_word() {
         let mut words = [0xD280_0020; 9]; // MOVZ X0, #1

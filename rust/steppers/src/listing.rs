@@ -37,7 +37,7 @@ pub fn list(block: &[u8], output: &mut [u8]) -> ListAnswer {
     ListAnswer { refusal: 0, length: length.0 as u64, offset: 0 }
 }
 
-/// Takes the texts of a line, one behind the other.
+/// Takes the texts of a line, one after the other.
 trait Sink {
     fn push(&mut self, text: &[u8]) -> &mut Self;
 
@@ -85,7 +85,7 @@ impl Sink for Length {
     }
 }
 
-/// The output behind what is written.
+/// The output after what is written.
 struct Output<'a>(&'a mut [u8]);
 
 impl Sink for Output<'_> {

@@ -391,7 +391,7 @@ mod tests {
         assert_eq!(from_zeros(&[0x8F, 0x8F, 0xFF, 0xFF], 0x1000, 9, false), answer(1, 0x1004));
     }
 
-    /// It is counted, and what stands behind it is not done.
+    /// It is counted, and what stands after it is not done.
     #[test]
     fn fence_i_ends_a_block() {
         let li = [0x7D, 0x55];
