@@ -1,8 +1,8 @@
 // `compile_native_block`: limit, alignment and fetch around the emitters. FENCE.I ends a block (document 02, No. 3).
 ghost use mathlib.Core.Path.{_≡_};
 ghost use mathlib.Core.List.{_++_};
-ghost use Prim.Native.Nat.{ℕ, _+_, _≤_, min};
-ghost use mathlib.Core.Bool.{false};
+ghost use Prim.Native.Nat.{ℕ, _+_, _<_, _≤_, min};
+ghost use mathlib.Core.Bool.{true, false};
 ghost use lib.ListN.{length};
 ghost use Rattle.rules.specs.Limits.{inline-words, end-words, max-instrs, short-words, max-words, max-slot-offset};
 ghost use Rattle.a64_emitter.specs.Parts.{held, short-block-words, block-words, InstrArray, Copied};
@@ -107,6 +107,17 @@ fn helper_stop(flow: EmitFlow) -> Stop
     Stop::Uncovered
 }
 
+// Whether after `len` of `all` words there is no room for one more instruction and the end.
+fn lacks_room(len: usize, all: usize) -> bool
+    requires { ⌜ inline-words + end-words ≤ all ⌝ }
+    ensures { λ r. ⌜ (r ≡ true → all < len + (inline-words + end-words)) × (r ≡ false → len + (inline-words + end-words) ≤ all) ⌝ }
+{
+    if all - INLINE_WORDS - END_WORDS < len {
+        return true;
+    }
+    false
+}
+
 // Whether the walk stopped for want of room: neither an instruction nor the limit stopped it.
 fn is_full(stop: Stop, fence: bool, n: u32, most: u32) -> bool
     ensures { λ r. ⌜ r ≡ is-full stop «fence» n most ⌝ }
@@ -196,9 +207,8 @@ fn walk(words: &mut [u32], guest: &[u8], start: u64, from: Walked, most: u32, ho
     let mut n: u32 = from.n;
     let mut fence = false;
     let mut part = [0u32; INSTR_WORDS];
-    let room = words.len() - INLINE_WORDS - END_WORDS;
     let stop = loop {
-        if n == most || room < len {
+        if n == most || lacks_room(len, words.len()) {
             break Stop::Limit;
         }
         let pc = std::num::wrapping_add_u64(start, i as u64);

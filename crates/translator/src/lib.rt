@@ -97,13 +97,13 @@ fn answer_for(done: Walked, length: usize, room: usize) -> Answer
 }
 
 // How much of the output the short emitter's words may take: nothing where they are no block.
-fn room_of(done: Walked, room: usize) -> usize
-    ensures { λ r. ⌜ RoomOf done room r ⌝ }
+fn room_of(walked: Walked, room: usize) -> usize
+    ensures { λ r. ⌜ RoomOf walked room r ⌝ }
 {
-    if done.full {
+    if walked.full {
         return 0;
     }
-    if done.n == 0 {
+    if walked.n == 0 {
         return 0;
     }
     room

@@ -90,8 +90,8 @@
 //! # Ok::<(), Refusal>(())
 //! ```
 //!
-//! [`translate`] takes 12 KB of stack, the others 1 KB. The library has no state: calls may run in any threads at
-//! once.
+//! [`translate`] takes 12 KB of stack, 4 KB where the limit is at most 8, the others 1 KB. The library has no state:
+//! calls may run in any threads at once.
 
 #![deny(unsafe_code)]
 #![warn(missing_docs)]
