@@ -208,7 +208,7 @@ fn walk(words: &mut [u32], guest: &[u8], start: u64, from: Walked, most: u32, ho
     let mut fence = false;
     let mut part = [0u32; INSTR_WORDS];
     let stop = loop {
-        if n == most || lacks_room(len, words.len()) {
+        if lacks_room(len, words.len()) || n == most {
             break Stop::Limit;
         }
         let pc = std::num::wrapping_add_u64(start, i as u64);
