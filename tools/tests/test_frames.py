@@ -17,6 +17,7 @@ X86, ARM = 62, 183
 FINISH = ["mov    rdx,r15", "call   39b <hilofanur_translate+0x39b>", "to memcpy-0x4"]
 GO_ON = ["call   3e7 <hilofanur_translate+0x3e7>", "to .text.translator::go_on-0x4"]
 WHOLE = ["mov    edx,0x3c0", "mov    rsi,r14", "call   163 <hilofanur_translate+0x163>", "to memcpy-0x4"]
+PROBED = ["sub    rsp,0x1000", "mov    QWORD PTR [rsp],0x0", "sub    rsp,0xda8"]
 FILL = ["ret"] * 8
 
 
@@ -35,7 +36,7 @@ class Frames(unittest.TestCase):
     def setUp(self):
         self.functions = {
             "hilofanur_translate": ["push   rbp", "sub    rsp,0x478", *FINISH, *GO_ON, *FILL],
-            "translator::go_on": ["sub    rsp,0x1000", "mov    QWORD PTR [rsp],0x0", "sub    rsp,0xda8", *FINISH, *FILL],
+            "translator::go_on": [*PROBED, *FINISH, *FILL],
             "not_reached": [*WHOLE, *FILL],
         }
 

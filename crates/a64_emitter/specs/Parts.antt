@@ -12,7 +12,7 @@ use Rattle.a64_emitter.specs.Writers.{mov-imm64}
 use Rattle.a64_emitter.specs.Emitter.{bytes}
 use Rattle.rules.specs.Limits.{instr-words}
 
--- ---- the words that an emitter holds, an instruction's (of the array lent beside it) and a block's, and what the calls that add words leave
+-- ---- the words that an emitter holds, an instruction's, of the array lent beside it, and a block's, and what calls leave
 
 unfoldable pub held : InstrEmitter → List ℕ → List ℕ
 held e l = take (e .len) l
@@ -23,7 +23,8 @@ block-words e = take (e .len) (e .words)
 unfoldable pub short-block-words : ShortEmitter → List ℕ
 short-block-words e = take (e .len) (e .words)
 
--- the words h, of which there is room for m, after a call that adds ws: with all of ws, or unchanged where they do not fit
+-- the words h, of which there is room for m, after a call that adds ws: with all of ws, or unchanged where they do
+-- not fit
 unfoldable pub emitted-in : ℕ → List ℕ → List ℕ → List ℕ
 emitted-in m h ws = cond (leb (length h + length ws) m) (h ++ ws) h
 
@@ -59,7 +60,8 @@ pub record Adds (e : InstrEmitter) (l : List ℕ) (r : InstrEmitter) (l′ : Lis
   pub long : InstrArray l′
   pub holds : held r l′ ≡ emitted-all (held e l) gs
 
--- what a call leaves of an array l of m words whose first n are held: the first r of l′ are held, and they are those with ws added
+-- what a call leaves of an array l of m words whose first n are held: the first r of l′ are held, and they are those
+-- with ws added
 pub record Added (m : ℕ) (l : List ℕ) (n : ℕ) (l′ : List ℕ) (r : ℕ) (ws : List ℕ) : Type 0 where
   pub long : length l′ ≡ m
   pub holds : take r l′ ≡ emitted-in m (take n l) ws

@@ -26,8 +26,8 @@ pub struct ShortEmitter {
     pub len: usize,
 }
 
-// The emitter of one instruction: how many words it holds of the array of INSTR_WORDS that is lent beside it. The array is
-// no field: a struct of 128 bytes would be copied at each call, right after its words were stored.
+// The emitter of one instruction: how many words it holds of the array of INSTR_WORDS that is lent beside it. The
+// array is no field: a struct of 128 bytes would be copied at each call, right after its words were stored.
 pub struct InstrEmitter {
     pub len: usize,
 }
@@ -115,8 +115,8 @@ fn count_of(len: usize, room: usize) -> usize
     if len < room { len } else { room }
 }
 
-// An instruction's words after the first `at` of a block, where there is room for its whole array: all of that is moved, and
-// `len` of its words count. The block's array is lent: its loop calls this for each instruction.
+// An instruction's words after the first `at` of a block, where there is room for its whole array: all of that is
+// moved, and `len` of its words count. The block's array is lent: its loop calls this for each instruction.
 pub fn append_at(words: &mut [u32], at: usize, part: &[u32; INSTR_WORDS], len: usize) -> usize
     requires { ⌜ (at + instr-words ≤ length (now words)) × (length (now part) ≡ instr-words) ⌝ }
     ensures { λ r. ⌜ Added (length (now (words .entry))) (now (words .entry)) at (now (words .exit)) r (take len (now (part .entry))) ⌝ }

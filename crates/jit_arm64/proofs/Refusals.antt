@@ -123,7 +123,8 @@ odd-missing pc guest t =
     let e : eqb (pc % 2) 0 ≡ false = rw (eqb-true (pc % 2) 1 t) in
     rw e
 
--- the limit is 0 (refusal 2), the PC is odd (3), the first instruction lacks a halfword (4), or it is neither inline nor a helper's (5)
+-- the limit is 0 (refusal 2), the PC is odd (3), the first instruction lacks a halfword (4), or it is neither inline
+-- nor a helper's (5)
 abbrev pub refuses : Host → List ℕ → ℕ → ℕ → Bool
 refuses h guest pc limit = eqb limit 0 || (eqb (pc % 2) 1 || first h guest pc)
 

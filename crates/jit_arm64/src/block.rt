@@ -196,8 +196,8 @@ fn at_start() -> Walked
     }
 }
 
-// The instructions after those of `from`, at most `most` in all and none after FENCE.I: each by itself, its words appended,
-// until there is no room for one more and the end.
+// The instructions after those of `from`, at most `most` in all and none after FENCE.I: each by itself, its words
+// appended, until there is no room for one more and the end.
 fn walk(words: &mut [u32], guest: &[u8], start: u64, from: Walked, most: u32, host: Host) -> Walked
     requires { ⌜ (inline-words + end-words ≤ length (now words)) × (host .«slot_offset» ≤ max-slot-offset) × (most ≤ max-instrs) × Walking host (now guest) start most (now words) (from .len) (from .i) (from .n) ⌝ }
     ensures { λ r. ⌜ Onward host (now (guest .entry)) start most (length (now (words .entry))) (from .n) (now (words .exit)) r ⌝ }
@@ -275,8 +275,8 @@ fn move_long(words: &mut [u32; MAX_WORDS], from: &[u32; SHORT_WORDS], len: usize
     a64_emitter::copy_front(words, from, len);
 }
 
-// The block from `start` on, of at most `most` instructions, in the short emitter: the words of its instructions, then its
-// end; or, where it is full, the words so far.
+// The block from `start` on, of at most `most` instructions, in the short emitter: the words of its instructions,
+// then its end; or, where it is full, the words so far.
 pub fn compile_native_block(guest: &[u8], start: u64, most: u32, host: Host) -> ShortBlock
     requires { ⌜ (host .«slot_offset» ≤ max-slot-offset) × (most ≤ max-instrs) ⌝ }
     ensures { λ r. ⌜ ShortOf host (now (guest .entry)) start most r ⌝ }

@@ -121,7 +121,8 @@ fn replay_case(fd: i32) -> bool {
 // "A64LISTS"
 const MAGIC: u64 = 0x5354_5349_4c34_3641;
 
-// Replays the file's cases and says how many there were and how many differ. A file that goes on after them differs too.
+// Replays the file's cases and says how many there were and how many differ. A file that goes on after them differs
+// too.
 fn main() {
     let fd = replay::open(b"lists.bin");
     if fd < 0 {

@@ -42,7 +42,8 @@ helped-most EmitFlow.Terminate cs n pc = omega arith
 helped-most EmitFlow.None cs n pc = omega arith
 
 module _ (h : Host) (guest : List ℕ) (start limit most : ℕ) where
-  -- the FENCE.I o leaves so many instructions after n others; that walk w is the one with `to` left, and its limit ends it
+  -- the FENCE.I o leaves so many instructions after n others; that walk w is the one with `to` left, and its limit
+  -- ends it
   record Left (o : Option ℕ) (n : ℕ) (w : ℕ → Walk) (to : ℕ) : Type 0 where
     left : ℕ
     is : min (limit-at o limit) most ≡ n + left

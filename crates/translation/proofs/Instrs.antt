@@ -1,4 +1,5 @@
--- The calls of each instruction do to the slots and X0 what the instruction does to the registers and the PC. Assumes nothing.
+-- The calls of each instruction do to the slots and X0 what the instruction does to the registers and the PC. Assumes
+-- nothing.
 use mathlib.Core.Path.{_≡_, refl, sym, ap, _∙_}
 use mathlib.Core.Bool.{Bool, true, false, cond, not, _&&_}
 use mathlib.Core.List.{List, [], _∷_, _++_}

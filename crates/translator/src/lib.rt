@@ -109,8 +109,8 @@ fn room_of(walked: Walked, room: usize) -> usize
     room
 }
 
-// A block that is longer than the short emitter. `translate` calls this in two places, so that it stays a function of its
-// own: the long emitter is no part of the frame of `translate`.
+// A block that is longer than the short emitter. `translate` calls this in two places, so that it stays a function of
+// its own: the long emitter is no part of the frame of `translate`.
 fn go_on(
     before: &[u32; SHORT_WORDS],
     from: Walked,

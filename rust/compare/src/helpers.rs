@@ -1,5 +1,6 @@
-//! Document 02's No. 5 on the library's own answers: a block that a helper ends is run to its call, and from what a helper left
-//! on to its return. Each run is the plain stepper's, and each phrase is held to the RV64 stepper and document 01.
+//! Document 02's No. 5 on the library's own answers: a block that a helper ends is run to its call, and from what a
+//! helper left on to its return. Each run is the plain stepper's, and each phrase is held to the RV64 stepper and
+//! document 01.
 
 use crate::{question, Compared};
 use draw::case::HelperCase;
@@ -84,8 +85,8 @@ impl Block<'_> {
         self.layout.stack..self.layout.stack + 8
     }
 
-    /// Runs the words from the one numbered `first` on, as many as `steps` or more: what the plain stepper has, if the library
-    /// has the same.
+    /// Runs the words from the one numbered `first` on, as many as `steps` or more: what the plain stepper has, if
+    /// the library has the same.
     fn run(
         &self,
         random: &mut Random,
@@ -167,8 +168,8 @@ fn wrong(phrases: Phrases) -> Result<(), String> {
     Err(format!("not so: {wrong:?}"))
 }
 
-/// The helper's address and arguments by document 01, with the X1 to X5 of entry and the registers `x`: of a load or store of
-/// 32 bits operation, rd, value or 0, address and PC, of others the instruction and the PC.
+/// The helper's address and arguments by document 01, with the X1 to X5 of entry and the registers `x`: of a load or
+/// store of 32 bits operation, rd, value or 0, address and PC, of others the instruction and the PC.
 fn call(host: &Host, instr: u32, pc: u64, entry: &[u64; 31], x: &[u64; 32]) -> (u64, Vec<u64>) {
     let field = |from: u32, width: u32| instr >> from & ((1 << width) - 1);
     let (funct3, rd) = (u64::from(field(12, 3)), u64::from(field(7, 5)));
@@ -189,8 +190,8 @@ fn call(host: &Host, instr: u32, pc: u64, entry: &[u64; 31], x: &[u64; 32]) -> (
     }
 }
 
-/// Takes the registers through the prefix by the RV64 stepper: whether it does just that and stands before the helper's
-/// instruction. Where that is the first, it refuses.
+/// Takes the registers through the prefix by the RV64 stepper: whether it does just that and stands before the
+/// helper's instruction. Where that is the first, it refuses.
 fn does_prefix(guest: &Guest, prefix: u64, pc: u64, x: &mut [u64; 32]) -> bool {
     let expected = match prefix {
         0 => Rv64Answer { refusal: 5, count: 0, next_pc: 0 },

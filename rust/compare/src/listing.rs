@@ -1,4 +1,5 @@
-//! The listing against the plain writer: refusals, length, every byte of the output and after it, what the offset names.
+//! The listing against the plain writer: refusals, length, every byte of the output and after it, what the offset
+//! names.
 
 use crate::Compared;
 use draw::forms::is_a64;

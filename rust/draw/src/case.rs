@@ -176,8 +176,8 @@ mod tests {
     use super::*;
     use crate::class::{first, Class};
 
-    /// The classes of a question's instructions up to the first that is not Next, one beyond the limit at most; whether
-    /// FENCE.I stands right after the last of them.
+    /// The classes of a question's instructions up to the first that is not Next, one beyond the limit at most;
+    /// whether FENCE.I stands right after the last of them.
     fn walk(case: &Case) -> (Vec<Class>, bool) {
         let (mut at, mut classes) = (0, Vec::new());
         while let Some((class, size)) = first(&case.guest[at..], case.ignore_ebreak) {
@@ -192,7 +192,8 @@ mod tests {
         (classes, behind)
     }
 
-    /// A helper's instruction ends each of these, where it is said to stand; every prefix and PCs across 2^64 are among them.
+    /// A helper's instruction ends each of these, where it is said to stand; every prefix and PCs across 2^64 are
+    /// among them.
     #[test]
     fn helper_cases() {
         let (guests, mut random) = (Guests::default(), Random(1));
@@ -215,7 +216,8 @@ mod tests {
         assert!(exact >= 5_000 && across >= 100, "{exact} {across}");
     }
 
-    /// Of the blocks that refusals 2, 4 and 5 leave, FENCE.I ends about one in eight, and it stands where the list has it.
+    /// Of the blocks that refusals 2, 4 and 5 leave, FENCE.I ends about one in eight, and it stands where the list
+    /// has it.
     #[test]
     fn fence_i_in_every_place() {
         let (guests, mut random) = (Guests::default(), Random(1));

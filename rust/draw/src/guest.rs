@@ -90,8 +90,8 @@ impl Guests {
         next_instruction(random, forms)
     }
 
-    /// Code around FENCE.I, which is one of the first instructions or about the 64th. Now and then another one, FENCE or
-    /// leftover words are beside it, or a helper's instruction ends the block before it.
+    /// Code around FENCE.I, which is one of the first instructions or about the 64th. Now and then another one, FENCE
+    /// or leftover words are beside it, or a helper's instruction ends the block before it.
     fn fenced(&self, random: &mut Random) -> Vec<u8> {
         let before = if random.below(6) == 0 { 61 + random.below(5) } else { random.below(4) };
         let mut guest = Vec::new();
@@ -145,8 +145,8 @@ impl Guests {
         })
     }
 
-    /// `many` inline instructions after which a block goes on, at times one `many` times; then a helper's of the form, and at
-    /// times any bytes. Where the helper's begins.
+    /// `many` inline instructions after which a block goes on, at times one `many` times; then a helper's of the
+    /// form, and at times any bytes. Where the helper's begins.
     pub fn helped(
         &self,
         random: &mut Random,

@@ -30,8 +30,8 @@ pub fn expected(case: &Case, output: &mut [u8]) -> Answer {
     answer
 }
 
-/// Where FENCE.I is among the instructions that the Rust counts, the Rust's block at the limit that the first one meets, and
-/// its end kind is drop (document 02, No. 3).
+/// Where FENCE.I is among the instructions that the Rust counts, the Rust's block at the limit that the first one
+/// meets, and its end kind is drop (document 02, No. 3).
 fn up_to_fence_i(case: &Case, output: &mut [u8]) -> Answer {
     let whole = ask_rust(case, case.limit, &mut [0; LONGEST]);
     let Some(number) = first_fence_i(&case.guest, whole.count) else {

@@ -1,6 +1,5 @@
-//! The recorded answers: cases drawn from a fixed seed, each with what the Rust says of it; of blocks that FENCE.I ends,
-//! with their count as the limit.
-//! The README describes the files byte by byte.
+//! The recorded answers: cases drawn from a fixed seed, each with what the Rust says of it; of blocks that FENCE.I
+//! ends, with their count as the limit. The README describes the files byte by byte.
 
 use crate::{compressed_immediates, decode, expected, place};
 use draw::case::{self, BAD_SLOTS, HELPERS};

@@ -1,4 +1,5 @@
-//! RV64 run: the RISC-V Unprivileged ISA (RV64I, M, C) with document 01's source readings; FENCE.I ends it (document 02, No. 3).
+//! RV64 run: the RISC-V Unprivileged ISA (RV64I, M, C) with document 01's source readings; FENCE.I ends it (document
+//! 02, No. 3).
 
 #[derive(Clone, Copy, Debug, PartialEq, Eq)]
 pub struct Rv64Answer {
