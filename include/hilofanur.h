@@ -32,7 +32,8 @@
  *
  * The archive calls memcpy and memset and nothing else. It is position-independent, has no unwind tables and no
  * writable data. On x86-64 it uses SSE2 and the red zone; on AArch64 it is Armv8.0. Translate takes 12 KB of stack,
- * 4 KB where the limit is at most 8, the others 1 KB, on both.
+ * 4 KB where the limit is at most 8, the others 1 KB, on both. A dynamic linker that binds memcpy or memset at its
+ * first call takes its own stack there, 3 KB on x86-64.
  *
  * How a block is called, on an Arm processor or by A64 run: from word 0, with X30 the address to return to and X0
  * such that register n has its slot, eight little-endian bytes, at X0 plus slot_offset plus 8n, a multiple of 8.
