@@ -8,9 +8,10 @@ use native.Mathlib.Omega.{arith}
 use lib.Dec.{eqb, lit<}
 use borrow.Author.Tests.{eqb-true}
 use Rattle.a64.specs.declared.Op.{Op}
-use Rattle.a64.specs.declared.Op.the-variants.{Add, Sub, And, Orr, Eor, Lslv, Lsrv, Asrv, Mul, Smulh, Umulh, Udiv, Sdiv}
+use Rattle.a64.specs.declared.Op.the-variants.{Add, Sub, And, Orr, Eor, Bic, Orn, Eon, Lslv, Lsrv, Asrv, Rorv, Mul, Smulh, Umulh, Udiv, Sdiv}
+use Rattle.a64.specs.declared.Op1.the-variants.{Rev, Clz}
 use Rattle.a64.specs.declared.Form.{Form}
-use Rattle.a64.specs.declared.Form.the-variants.{DataProcessing, Ldr, Str, Movz, Movk, Cmp, Csel, Sxtw, AddSp, SubSp, Blr, Ret, Unreadable}
+use Rattle.a64.specs.declared.Form.the-variants.{DataProcessing, OneSource, Ldr, Str, Movz, Movk, Cmp, Csel, Sxtw, AddSp, SubSp, Blr, Ret, Unreadable}
 use Rattle.a64.specs.Parts.{InRange, form-of}
 use Rattle.a64.specs.Forms.{op-word, ops, encode, rd, rn, rm, imm12, imm16, top-bits, mid-bits, low-bits, form-if, op-bits, decode-op, decode}
 
@@ -54,6 +55,7 @@ record Split6 (w t m s n d : ℕ) : Type 0 where
   eleven : w / 2 ^ 10 % 2 ^ 11 ≡ m * 64 + s
   six : w / 2 ^ 10 % 2 ^ 6 ≡ s
   two : w / 2 ^ 10 % 2 ^ 2 ≡ s % 4
+  low-bit : w / 2 ^ 10 % 2 ≡ s % 2
   four : w / 2 ^ 12 % 16 ≡ s / 4
   base : rn w ≡ n
   reg : rd w ≡ d
@@ -72,6 +74,7 @@ split6 w t m s n d e hm hs hn hd =
       eleven = omega arith;
       six = omega arith;
       two = omega arith;
+      low-bit = omega arith;
       four = omega arith;
       base = omega arith;
       reg = omega arith;
@@ -90,9 +93,13 @@ op-row Sub = record { small = lit< tt; whole = refl; found = λ w d n m s. simp 
 op-row And = record { small = lit< tt; whole = refl; found = λ w d n m s. simp (s .quarter, s .half, s .top, s .six, s .third, s .base, s .reg) }
 op-row Orr = record { small = lit< tt; whole = refl; found = λ w d n m s. simp (s .quarter, s .half, s .top, s .six, s .third, s .base, s .reg) }
 op-row Eor = record { small = lit< tt; whole = refl; found = λ w d n m s. simp (s .quarter, s .half, s .top, s .six, s .third, s .base, s .reg) }
+op-row Bic = record { small = lit< tt; whole = refl; found = λ w d n m s. simp (s .quarter, s .half, s .top, s .six, s .third, s .base, s .reg) }
+op-row Orn = record { small = lit< tt; whole = refl; found = λ w d n m s. simp (s .quarter, s .half, s .top, s .six, s .third, s .base, s .reg) }
+op-row Eon = record { small = lit< tt; whole = refl; found = λ w d n m s. simp (s .quarter, s .half, s .top, s .six, s .third, s .base, s .reg) }
 op-row Lslv = record { small = lit< tt; whole = refl; found = λ w d n m s. simp (s .quarter, s .half, s .top, s .six, s .third, s .base, s .reg) }
 op-row Lsrv = record { small = lit< tt; whole = refl; found = λ w d n m s. simp (s .quarter, s .half, s .top, s .six, s .third, s .base, s .reg) }
 op-row Asrv = record { small = lit< tt; whole = refl; found = λ w d n m s. simp (s .quarter, s .half, s .top, s .six, s .third, s .base, s .reg) }
+op-row Rorv = record { small = lit< tt; whole = refl; found = λ w d n m s. simp (s .quarter, s .half, s .top, s .six, s .third, s .base, s .reg) }
 op-row Mul = record { small = lit< tt; whole = refl; found = λ w d n m s. simp (s .quarter, s .half, s .top, s .six, s .third, s .base, s .reg) }
 op-row Smulh = record { small = lit< tt; whole = refl; found = λ w d n m s. simp (s .quarter, s .half, s .top, s .six, s .third, s .base, s .reg) }
 op-row Umulh = record { small = lit< tt; whole = refl; found = λ w d n m s. simp (s .quarter, s .half, s .top, s .six, s .third, s .base, s .reg) }
@@ -104,6 +111,12 @@ unfolding decode
 decode-encode (DataProcessing op d n m) r =
     let e = op-row op .whole in
     op-row op .found _ d n m (split6 (encode (DataProcessing op d n m)) _ m _ n d (omega arith) (r .2) (omega arith) (r .1) (r .0))
+decode-encode (OneSource Rev d n) r =
+    let s = split6 (encode (OneSource Rev d n)) 0x6D6 0 3 n d (omega arith) (omega arith) (omega arith) (r .1) (r .0) in
+    simp (s .quarter, s .half, s .top, s .eleven, s .base, s .reg)
+decode-encode (OneSource Clz d n) r =
+    let s = split6 (encode (OneSource Clz d n)) 0x6D6 0 4 n d (omega arith) (omega arith) (omega arith) (r .1) (r .0) in
+    simp (s .quarter, s .half, s .top, s .eleven, s .base, s .reg)
 decode-encode (Movz d h v) r = let s = split16 _ 0x1A5 h v d refl (r .1) (r .2) (r .0) in simp (s .top, s .hw, s .value, s .reg)
 decode-encode (Movk d h v) r = let s = split16 _ 0x1E5 h v d refl (r .1) (r .2) (r .0) in simp (s .top, s .hw, s .value, s .reg)
 decode-encode (Ldr d n i) r = let s = split12 _ 0x3E5 i n d refl (r .2) (r .1) (r .0) in simp (s .half, s .top, s .value, s .base, s .reg)
@@ -185,7 +198,10 @@ module _ (w : ℕ) where
       (read-top 21 0x93407C00 (λ h. read-mid 10 11 0x93407C00 (λ m. (omega arith, λ k. omega (arith, quotients))))
       (read-top 21 0xD63F0000 (λ h. read-mid 10 11 0xD63F0000 (λ m. read-low 5 0xD63F0000 (λ l. (omega arith, λ k. omega (arith, quotients)))))
       (read-top 21 0xD65F03C0 (λ h. read-low 21 0xD65F03C0 (λ l. (tt, λ k. omega arith)))
-      (read-op ops)))))))))))
+      (read-top 21 0xDAC00000 (λ h.
+      read-cond (mid-bits 10 11 0xDAC00C00 w) (λ e. let m : w / 2 ^ 10 % 2 ^ 11 ≡ 0xDAC00C00 / 2 ^ 10 % 2 ^ 11 = eqb-true _ _ e in (omega arith, λ k. omega (arith, quotients)))
+      (read-mid 10 11 0xDAC01000 (λ m. (omega arith, λ k. omega (arith, quotients)))))
+      (read-op ops))))))))))))
 
 -- what is read is in range
 pub decode-in-range : (w : ℕ) → InRange (decode w)
@@ -198,6 +214,8 @@ encode-decode w = read w .1
 -- a form's word has 32 bits
 encode-lt : (f : Form) → InRange f → encode f < 2 ^ 32
 encode-lt (DataProcessing op d n m) r = let s = op-row op .small in let e = op-row op .whole in omega arith
+encode-lt (OneSource Rev d n) r = omega arith
+encode-lt (OneSource Clz d n) r = omega arith
 encode-lt (Ldr t n i) r = omega arith
 encode-lt (Str t n i) r = omega arith
 encode-lt (Movz d h v) r = omega arith
@@ -236,12 +254,16 @@ op-by-byte : (op : Op) (w d n m : ℕ) → Split6 w (op-word op / 2 ^ 21) m (op-
 unfolding form-of
 op-by-byte Add w d n m s = simp (s .byte, s .third, s .base, s .reg)
 op-by-byte Sub w d n m s = simp (s .byte, s .third, s .base, s .reg)
-op-by-byte And w d n m s = simp (s .byte, s .third, s .base, s .reg)
-op-by-byte Orr w d n m s = simp (s .byte, s .third, s .base, s .reg)
-op-by-byte Eor w d n m s = simp (s .byte, s .third, s .base, s .reg)
+op-by-byte And w d n m s = simp (s .byte, s .bit, s .third, s .base, s .reg)
+op-by-byte Orr w d n m s = simp (s .byte, s .bit, s .third, s .base, s .reg)
+op-by-byte Eor w d n m s = simp (s .byte, s .bit, s .third, s .base, s .reg)
+op-by-byte Bic w d n m s = simp (s .byte, s .bit, s .third, s .base, s .reg)
+op-by-byte Orn w d n m s = simp (s .byte, s .bit, s .third, s .base, s .reg)
+op-by-byte Eon w d n m s = simp (s .byte, s .bit, s .third, s .base, s .reg)
 op-by-byte Lslv w d n m s = simp (s .byte, s .three-bits, s .six, s .third, s .base, s .reg)
 op-by-byte Lsrv w d n m s = simp (s .byte, s .three-bits, s .six, s .third, s .base, s .reg)
 op-by-byte Asrv w d n m s = simp (s .byte, s .three-bits, s .six, s .third, s .base, s .reg)
+op-by-byte Rorv w d n m s = simp (s .byte, s .three-bits, s .six, s .third, s .base, s .reg)
 op-by-byte Mul w d n m s = simp (s .byte, s .three-bits, s .third, s .base, s .reg)
 op-by-byte Smulh w d n m s = simp (s .byte, s .three-bits, s .third, s .base, s .reg)
 op-by-byte Umulh w d n m s = simp (s .byte, s .three-bits, s .third, s .base, s .reg)
@@ -253,6 +275,12 @@ unfolding form-of
 form-encode (DataProcessing op d n m) r k =
     let e = op-row op .whole in
     op-by-byte op _ d n m (split6 (encode (DataProcessing op d n m)) _ m _ n d (omega arith) (r .2) (omega arith) (r .1) (r .0))
+form-encode (OneSource Rev d n) r k =
+    let s = split6 (encode (OneSource Rev d n)) 0x6D6 0 3 n d (omega arith) (omega arith) (omega arith) (r .1) (r .0) in
+    simp (s .byte, s .low-bit, s .base, s .reg)
+form-encode (OneSource Clz d n) r k =
+    let s = split6 (encode (OneSource Clz d n)) 0x6D6 0 4 n d (omega arith) (omega arith) (omega arith) (r .1) (r .0) in
+    simp (s .byte, s .low-bit, s .base, s .reg)
 form-encode (Movz d h v) r k = let s = split16 _ 0x1A5 h v d refl (r .1) (r .2) (r .0) in simp (s .byte, s .hw, s .value, s .reg)
 form-encode (Movk d h v) r k = let s = split16 _ 0x1E5 h v d refl (r .1) (r .2) (r .0) in simp (s .byte, s .hw, s .value, s .reg)
 form-encode (Ldr d n i) r k = let s = split12 _ 0x3E5 i n d refl (r .2) (r .1) (r .0) in simp (s .byte, s .bit, s .value, s .base, s .reg)

@@ -5,9 +5,11 @@ use mathlib.Core.Bool.{Bool, cond}
 use mathlib.Core.List.{List, [], _∷_}
 use lib.Dec.{eqb}
 use Rattle.a64.specs.declared.Op.{Op}
-use Rattle.a64.specs.declared.Op.the-variants.{Add, Sub, And, Orr, Eor, Lslv, Lsrv, Asrv, Mul, Smulh, Umulh, Udiv, Sdiv}
+use Rattle.a64.specs.declared.Op.the-variants.{Add, Sub, And, Orr, Eor, Bic, Orn, Eon, Lslv, Lsrv, Asrv, Rorv, Mul, Smulh, Umulh, Udiv, Sdiv}
+use Rattle.a64.specs.declared.Op1.{Op1}
+use Rattle.a64.specs.declared.Op1.the-variants.{Rev, Clz}
 use Rattle.a64.specs.declared.Form.{Form}
-use Rattle.a64.specs.declared.Form.the-variants.{DataProcessing, Ldr, Str, Movz, Movk, Cmp, Csel, Sxtw, AddSp, SubSp, Blr, Ret, Unreadable}
+use Rattle.a64.specs.declared.Form.the-variants.{DataProcessing, OneSource, Ldr, Str, Movz, Movk, Cmp, Csel, Sxtw, AddSp, SubSp, Blr, Ret, Unreadable}
 
 -- the word of a three-register form whose registers are all 0
 abbrev pub op-word : Op → ℕ
@@ -21,12 +23,20 @@ op-word And = 0x8A000000
 op-word Orr = 0xAA000000
 -- EOR (shifted register), LSL #0
 op-word Eor = 0xCA000000
+-- BIC (shifted register), LSL #0
+op-word Bic = 0x8A200000
+-- ORN (shifted register), LSL #0
+op-word Orn = 0xAA200000
+-- EON (shifted register), LSL #0
+op-word Eon = 0xCA200000
 -- LSLV
 op-word Lslv = 0x9AC02000
 -- LSRV
 op-word Lsrv = 0x9AC02400
 -- ASRV
 op-word Asrv = 0x9AC02800
+-- RORV
+op-word Rorv = 0x9AC02C00
 -- MADD with Ra 31, which is MUL
 op-word Mul = 0x9B007C00
 -- SMULH
@@ -39,10 +49,18 @@ op-word Udiv = 0x9AC00800
 op-word Sdiv = 0x9AC00C00
 
 abbrev pub ops : List Op
-ops = Add ∷ Sub ∷ And ∷ Orr ∷ Eor ∷ Lslv ∷ Lsrv ∷ Asrv ∷ Mul ∷ Smulh ∷ Umulh ∷ Udiv ∷ Sdiv ∷ []
+ops = Add ∷ Sub ∷ And ∷ Orr ∷ Eor ∷ Bic ∷ Orn ∷ Eon ∷ Lslv ∷ Lsrv ∷ Asrv ∷ Rorv ∷ Mul ∷ Smulh ∷ Umulh ∷ Udiv ∷ Sdiv ∷ []
+
+-- the word of a form with one source, whose registers are 0
+abbrev pub op1-word : Op1 → ℕ
+-- REV, 64-bit
+op1-word Rev = 0xDAC00C00
+-- CLZ, 64-bit
+op1-word Clz = 0xDAC01000
 
 abbrev pub encode : Form → ℕ
 encode (DataProcessing op rd rn rm) = op-word op + rm * 2 ^ 16 + rn * 2 ^ 5 + rd
+encode (OneSource op rd rn) = op1-word op + rn * 2 ^ 5 + rd
 -- LDR (immediate), 64-bit, unsigned offset
 encode (Ldr rt rn imm) = 0xF9400000 + imm * 2 ^ 10 + rn * 2 ^ 5 + rt
 -- STR (immediate), 64-bit, unsigned offset
@@ -106,6 +124,12 @@ decode-op (op ∷ rest) w = cond (eqb (op-bits w) (op-bits (op-word op))) (DataP
 abbrev pub form-if : Bool → Form → Form
 form-if b f = cond b f Unreadable
 
+-- the form with one source, by bits 20 to 10
+abbrev pub decode-one : ℕ → Form
+decode-one w =
+    cond (mid-bits 10 11 0xDAC00C00 w) (OneSource Rev (rd w) (rn w))
+    (form-if (mid-bits 10 11 0xDAC01000 w) (OneSource Clz (rd w) (rn w)))
+
 -- the form of a word: its fixed bits are compared with those of the form's word, and its fields are read. The forms without an immediate:
 abbrev pub decode-register : ℕ → Form
 decode-register w =
@@ -114,7 +138,8 @@ decode-register w =
     (cond (top-bits 21 0x93407C00 w) (form-if (mid-bits 10 11 0x93407C00 w) (Sxtw (rd w) (rn w)))
     (cond (top-bits 21 0xD63F0000 w) (form-if (mid-bits 10 11 0xD63F0000 w) (form-if (low-bits 5 0xD63F0000 w) (Blr (rn w))))
     (cond (top-bits 21 0xD65F03C0 w) (form-if (low-bits 21 0xD65F03C0 w) Ret)
-    (decode-op ops w)))))
+    (cond (top-bits 21 0xDAC00000 w) (decode-one w)
+    (decode-op ops w))))))
 
 -- and all forms
 unfoldable pub decode : ℕ → Form

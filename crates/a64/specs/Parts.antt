@@ -2,14 +2,17 @@
 use Prim.Native.Nat.{ℕ, _/_, _%_, _^_, _<_}
 use mathlib.Core.Bool.{cond}
 use lib.Dec.{eqb}
-use Rattle.a64.specs.declared.Op.the-variants.{Add, Sub, And, Orr, Eor, Lslv, Lsrv, Asrv, Mul, Smulh, Umulh, Udiv, Sdiv}
+use Rattle.a64.specs.declared.Op.the-variants.{Add, Sub, And, Orr, Eor, Bic, Orn, Eon, Lslv, Lsrv, Asrv, Rorv, Mul, Smulh, Umulh, Udiv, Sdiv}
+use Rattle.a64.specs.declared.Op.{Op}
+use Rattle.a64.specs.declared.Op1.the-variants.{Rev, Clz}
 use Rattle.a64.specs.declared.Form.{Form}
-use Rattle.a64.specs.declared.Form.the-variants.{DataProcessing, Ldr, Str, Movz, Movk, Cmp, Csel, Sxtw, AddSp, SubSp, Blr, Ret, Unreadable}
+use Rattle.a64.specs.declared.Form.the-variants.{DataProcessing, OneSource, Ldr, Str, Movz, Movk, Cmp, Csel, Sxtw, AddSp, SubSp, Blr, Ret, Unreadable}
 use Rattle.a64.specs.Forms.{rd, rn, rm, imm12, imm16}
 
 -- each field fits its bits
 abbrev pub InRange : Form → Type 0
 InRange (DataProcessing op rd rn rm) = (rd < 32) × (rn < 32) × (rm < 32)
+InRange (OneSource op rd rn) = (rd < 32) × (rn < 32)
 InRange (Ldr rt rn imm) = (rt < 32) × (rn < 32) × (imm < 4096)
 InRange (Str rt rn imm) = (rt < 32) × (rn < 32) × (imm < 4096)
 InRange (Movz rd hw imm) = (rd < 32) × (hw < 4) × (imm < 65536)
@@ -23,7 +26,14 @@ InRange (Blr rn) = rn < 32
 InRange Ret = Unit {0}
 InRange Unreadable = Unit {0}
 
--- ---- the form of a word that is one of the 24, by its upper byte
+-- ---- the form of a word that is one of the 30, by its upper byte
+
+-- a logical operation, and the same with its second operand inverted
+abbrev pub form-logical : ℕ → Op → Op → Form
+form-logical w op inverted = cond (eqb (w / 2 ^ 21 % 2) 1) (DataProcessing inverted (rd w) (rn w) (rm w)) (DataProcessing op (rd w) (rn w) (rm w))
+
+abbrev pub form-da : ℕ → Form
+form-da w = cond (eqb (w / 2 ^ 10 % 2) 1) (OneSource Rev (rd w) (rn w)) (OneSource Clz (rd w) (rn w))
 
 abbrev pub form-9a : ℕ → Form
 form-9a w =
@@ -31,7 +41,8 @@ form-9a w =
     (cond (eqb (w / 2 ^ 10 % 64) 8) (DataProcessing Lslv (rd w) (rn w) (rm w))
     (cond (eqb (w / 2 ^ 10 % 64) 9) (DataProcessing Lsrv (rd w) (rn w) (rm w))
     (cond (eqb (w / 2 ^ 10 % 64) 10) (DataProcessing Asrv (rd w) (rn w) (rm w))
-    (cond (eqb (w / 2 ^ 10 % 64) 2) (DataProcessing Udiv (rd w) (rn w) (rm w)) (DataProcessing Sdiv (rd w) (rn w) (rm w))))))
+    (cond (eqb (w / 2 ^ 10 % 64) 11) (DataProcessing Rorv (rd w) (rn w) (rm w))
+    (cond (eqb (w / 2 ^ 10 % 64) 2) (DataProcessing Udiv (rd w) (rn w) (rm w)) (DataProcessing Sdiv (rd w) (rn w) (rm w)))))))
 
 abbrev pub form-9b : ℕ → Form
 form-9b w =
@@ -40,18 +51,19 @@ form-9b w =
 
 unfoldable pub form-of : ℕ → Form
 form-of w =
-    cond (eqb (w / 2 ^ 24) 0x8A) (DataProcessing And (rd w) (rn w) (rm w))
+    cond (eqb (w / 2 ^ 24) 0x8A) (form-logical w And Bic)
     (cond (eqb (w / 2 ^ 24) 0x8B) (DataProcessing Add (rd w) (rn w) (rm w))
     (cond (eqb (w / 2 ^ 24) 0x91) (AddSp (imm12 w))
     (cond (eqb (w / 2 ^ 24) 0x93) (Sxtw (rd w) (rn w))
     (cond (eqb (w / 2 ^ 24) 0x9A) (form-9a w)
     (cond (eqb (w / 2 ^ 24) 0x9B) (form-9b w)
-    (cond (eqb (w / 2 ^ 24) 0xAA) (DataProcessing Orr (rd w) (rn w) (rm w))
-    (cond (eqb (w / 2 ^ 24) 0xCA) (DataProcessing Eor (rd w) (rn w) (rm w))
+    (cond (eqb (w / 2 ^ 24) 0xAA) (form-logical w Orr Orn)
+    (cond (eqb (w / 2 ^ 24) 0xCA) (form-logical w Eor Eon)
     (cond (eqb (w / 2 ^ 24) 0xCB) (DataProcessing Sub (rd w) (rn w) (rm w))
     (cond (eqb (w / 2 ^ 24) 0xD1) (SubSp (imm12 w))
     (cond (eqb (w / 2 ^ 24) 0xD2) (Movz (rd w) (w / 2 ^ 21 % 4) (imm16 w))
+    (cond (eqb (w / 2 ^ 24) 0xDA) (form-da w)
     (cond (eqb (w / 2 ^ 24) 0xEB) (Cmp (rn w) (rm w))
     (cond (eqb (w / 2 ^ 24) 0xF2) (Movk (rd w) (w / 2 ^ 21 % 4) (imm16 w))
     (cond (eqb (w / 2 ^ 24) 0xF9) (cond (eqb (w / 2 ^ 22 % 2) 1) (Ldr (rd w) (rn w) (imm12 w)) (Str (rd w) (rn w) (imm12 w)))
-    (cond (eqb (w / 2 ^ 21 % 2) 1) (Blr (rn w)) Ret))))))))))))))
+    (cond (eqb (w / 2 ^ 21 % 2) 1) (Blr (rn w)) Ret)))))))))))))))

@@ -4,8 +4,12 @@ use mathlib.Core.Bool.{Bool, true, cond, not, xor, _&&_}
 use Prim.Native.Nat.{ℕ, _+_, _*_, _/_, _%_, _^_}
 use lib.Dec.{eqb}
 use Rattle.word.specs.Word.{wrap, add, mul, and64, or64, xor64, complement, sign, bias, shl, shr, asr, udiv, sdiv, mulh, mulhu}
+use Rattle.word.specs.Counts.{clz}
+use Rattle.word.specs.Bytes.{reversed, ror}
 use Rattle.a64.specs.declared.Op.{Op}
-use Rattle.a64.specs.declared.Op.the-variants.{Add, Sub, And, Orr, Eor, Lslv, Lsrv, Asrv, Mul, Smulh, Umulh, Udiv, Sdiv}
+use Rattle.a64.specs.declared.Op.the-variants.{Add, Sub, And, Orr, Eor, Bic, Orn, Eon, Lslv, Lsrv, Asrv, Rorv, Mul, Smulh, Umulh, Udiv, Sdiv}
+use Rattle.a64.specs.declared.Op1.{Op1}
+use Rattle.a64.specs.declared.Op1.the-variants.{Rev, Clz}
 use Rattle.a64_alu.specs.declared.Flags.{Flags}
 
 -- ---- AddWithCarry (J1.3, shared/functions/integer): the result, and the flags. V compares the sum of the signed values
@@ -56,14 +60,22 @@ op-value Sub x y = difference x y
 op-value And x y = and64 x y
 op-value Orr x y = or64 x y
 op-value Eor x y = xor64 x y
+op-value Bic x y = and64 x (complement y)
+op-value Orn x y = or64 x (complement y)
+op-value Eon x y = xor64 x (complement y)
 op-value Lslv x y = shl x (y % 64)
 op-value Lsrv x y = shr x (y % 64)
 op-value Asrv x y = asr x (y % 64)
+op-value Rorv x y = ror x (y % 64)
 op-value Mul x y = mul x y
 op-value Smulh x y = mulh x y
 op-value Umulh x y = mulhu x y
 op-value Udiv x y = udiv x y
 op-value Sdiv x y = sdiv x y
+
+unfoldable pub op1-value : Op1 → ℕ → ℕ
+op1-value Rev x = reversed 8 x
+op1-value Clz x = clz 64 x
 
 -- MOVK: halfword hw of x replaced
 unfoldable pub insert : ℕ → ℕ → ℕ → ℕ

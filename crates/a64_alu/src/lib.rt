@@ -3,9 +3,10 @@ ghost use mathlib.Core.Bool.{cond};
 ghost use mathlib.Core.Path.{_≡_};
 ghost use Prim.Native.Nat.{_/_, _<_, _≤_};
 ghost use lib.ListN.{length, getD};
-ghost use Rattle.a64_alu.specs.Alu.{op-value, compared, holds-even, holds, insert};
+ghost use Rattle.a64_alu.specs.Alu.{op-value, op1-value, compared, holds-even, holds, insert};
 ghost use Rattle.a64_alu.specs.Nzcv.{flags-of, nzcv-of};
 use a64::Op;
+use a64::Op1;
 
 // PSTATE.{N, Z, C, V}.
 pub struct Flags {
@@ -77,6 +78,20 @@ pub fn op_value(op: Op, x: &[u64; 31], n: u32, m: u32) -> u64
         Op::Umulh => word::mulhu(get(x, n), get(x, m)),
         Op::Udiv => udiv(get(x, n), get(x, m)),
         Op::Sdiv => word::sdiv(get(x, n), get(x, m)),
+        Op::Bic => get(x, n) & !get(x, m),
+        Op::Orn => get(x, n) | !get(x, m),
+        Op::Eon => get(x, n) ^ !get(x, m),
+        Op::Rorv => word::bytes::ror(get(x, n), (get(x, m) % 64) as u32),
+    }
+}
+
+// The result of a form with one source.
+pub fn op1_value(op: Op1, x: u64) -> u64
+    ensures { λ r. ⌜ r ≡ op1-value op x ⌝ }
+{
+    match op {
+        Op1::Rev => word::bytes::reversed(x),
+        Op1::Clz => word::counts::clz(x),
     }
 }
 

@@ -7,9 +7,9 @@ use lib.ListN.{length, getD, set}
 use Rattle.word.specs.Word.{wrap, add, sext}
 use Rattle.le.specs.Le.{load, store}
 use Rattle.a64.specs.declared.Form.{Form}
-use Rattle.a64.specs.declared.Form.the-variants.{DataProcessing, Ldr, Str, Movz, Movk, Cmp, Csel, Sxtw, AddSp, SubSp, Blr, Ret}
+use Rattle.a64.specs.declared.Form.the-variants.{DataProcessing, OneSource, Ldr, Str, Movz, Movk, Cmp, Csel, Sxtw, AddSp, SubSp, Blr, Ret}
 use Rattle.a64_alu.specs.declared.Flags.{Flags}
-use Rattle.a64_alu.specs.Alu.{difference, compared, holds, op-value, insert}
+use Rattle.a64_alu.specs.Alu.{difference, compared, holds, op-value, op1-value, insert}
 use Rattle.a64_exec.specs.declared.exec.Outcome.{Outcome}
 
 -- ---- the state
@@ -67,6 +67,7 @@ next s = after Outcome.Next s
 unfoldable pub exec : Form → State → After
 unfolding reaches
 exec (DataProcessing op rd rn rm) s = next (with-reg s rd (op-value op (reg s rn) (reg s rm)))
+exec (OneSource op rd rn) s = next (with-reg s rd (op1-value op (reg s rn)))
 exec (Ldr rt rn imm) s =
     cond (reaches s rn (address s rn imm))
     (next (with-reg s rt (load 8 (s .mem) (address s rn imm - s .base)))) (after Outcome.Fault s)

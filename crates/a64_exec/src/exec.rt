@@ -15,6 +15,7 @@ use a64_alu::get;
 use a64_alu::holds;
 use a64_alu::insert;
 use a64_alu::op_value;
+use a64_alu::op1_value;
 
 // How a form left the machine.
 pub enum Outcome {
@@ -191,5 +192,6 @@ pub fn exec(
         Form::Blr(_) => leave(Outcome::Call, sp, flags),
         Form::Ret => leave(Outcome::Return, sp, flags),
         Form::Unreadable => leave(Outcome::Unreadable, sp, flags),
+        Form::OneSource(op, rd, rn) => result(x, sp, flags, rd, op1_value(op, get(x, rn))),
     }
 }

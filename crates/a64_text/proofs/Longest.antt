@@ -10,9 +10,10 @@ use lib.ListN.{length, length-append}
 use borrow.Author.Tests.{lt-ltb}
 use Rattle.ascii.specs.Ascii.{ascii, digit, decimal-in, decimal}
 use Rattle.a64.specs.declared.Op.{Op}
-use Rattle.a64.specs.declared.Op.the-variants.{Add, Sub, And, Orr, Eor, Lslv, Lsrv, Asrv, Mul, Smulh, Umulh, Udiv, Sdiv}
+use Rattle.a64.specs.declared.Op.the-variants.{Add, Sub, And, Orr, Eor, Bic, Orn, Eon, Lslv, Lsrv, Asrv, Rorv, Mul, Smulh, Umulh, Udiv, Sdiv}
+use Rattle.a64.specs.declared.Op1.the-variants.{Rev, Clz}
 use Rattle.a64.specs.declared.Form.{Form}
-use Rattle.a64.specs.declared.Form.the-variants.{DataProcessing, Ldr, Str, Movz, Movk, Cmp, Csel, Sxtw, AddSp, SubSp, Blr, Ret, Unreadable}
+use Rattle.a64.specs.declared.Form.the-variants.{DataProcessing, OneSource, Ldr, Str, Movz, Movk, Cmp, Csel, Sxtw, AddSp, SubSp, Blr, Ret, Unreadable}
 use Rattle.a64_text.specs.Operands.{Operand, X, XSP, Imm, LSL, Mem, Cond, register, operand}
 use Rattle.a64_text.specs.Text.{syntax-of, op-syntax, syntax, further, text}
 use Rattle.a64_text.specs.Parts.{Readable}
@@ -64,9 +65,13 @@ operation Sub = three "sub" (LSL 0 ∷ []) (omega arith)
 operation And = three "and" (LSL 0 ∷ []) (omega arith)
 operation Orr = three "orr" (LSL 0 ∷ []) (omega arith)
 operation Eor = three "eor" (LSL 0 ∷ []) (omega arith)
+operation Bic = three "bic" (LSL 0 ∷ []) (omega arith)
+operation Orn = three "orn" (LSL 0 ∷ []) (omega arith)
+operation Eon = three "eon" (LSL 0 ∷ []) (omega arith)
 operation Lslv = three "lslv" [] (omega arith)
 operation Lsrv = three "lsrv" [] (omega arith)
 operation Asrv = three "asrv" [] (omega arith)
+operation Rorv = three "rorv" [] (omega arith)
 operation Mul = three "madd" (X 31 ∷ []) (omega arith)
 operation Smulh = three "smulh" [] (omega arith)
 operation Umulh = three "umulh" [] (omega arith)
@@ -95,6 +100,8 @@ stack s h n k = simp length-append (omega (arith, digits 5 3 n (omega arith), di
 pub longest : (f : Form) → Readable f → length (text (syntax f)) ≤ 26
 unfolding further operand decimal-in
 longest (DataProcessing op d n m) l = operation op d n m (l .fits)
+longest (OneSource Rev d n) l = two "rev" [] (omega arith) d n (l .fits)
+longest (OneSource Clz d n) l = two "clz" [] (omega arith) d n (l .fits)
 longest (Ldr d n k) l = access "ldr" (omega arith) d n k (l .fits)
 longest (Str d n k) l = access "str" (omega arith) d n k (l .fits)
 longest (Movz d k n) l = wide "movz" (omega arith) d k n (l .fits)

@@ -2,13 +2,14 @@
 ghost use mathlib.Core.Path.{_≡_};
 ghost use Prim.Native.Nat.{_<_};
 ghost use Rattle.a64_text.specs.Operands.{X};
-ghost use Rattle.a64_text.specs.Text.{syntax, op-syntax};
+ghost use Rattle.a64_text.specs.Text.{syntax, op-syntax, op1-syntax};
 ghost use Rattle.a64_text.specs.Parts.{Assembles, Readable};
 use crate::operand::NONE;
 use crate::operand::Rest;
 use crate::operand::SP;
 use a64::Form;
 use a64::Op;
+use a64::Op1;
 
 // Mnemonics with a blank after them: their bytes, of which the lowest is the first.
 const ADD: u64 = 0x2064_6461;
@@ -36,6 +37,18 @@ const UMULH: u64 = 0x2068_6C75_6D75;
 const UDIV: u64 = 0x20_7669_6475;
 
 const SDIV: u64 = 0x20_7669_6473;
+
+const BIC: u64 = 0x2063_6962;
+
+const ORN: u64 = 0x206E_726F;
+
+const EON: u64 = 0x206E_6F65;
+
+const RORV: u64 = 0x20_7672_6F72;
+
+const REV: u64 = 0x2076_6572;
+
+const CLZ: u64 = 0x207A_6C63;
 
 const LDR: u64 = 0x2072_646C;
 
@@ -94,6 +107,20 @@ fn op_assembly(op: Op, rd: u32, rn: u32, rm: u32) -> Assembled
         Op::Umulh => row(UMULH, rd, rn, rm, Rest::None),
         Op::Udiv => row(UDIV, rd, rn, rm, Rest::None),
         Op::Sdiv => row(SDIV, rd, rn, rm, Rest::None),
+        Op::Bic => row(BIC, rd, rn, rm, Rest::Lsl0),
+        Op::Orn => row(ORN, rd, rn, rm, Rest::Lsl0),
+        Op::Eon => row(EON, rd, rn, rm, Rest::Lsl0),
+        Op::Rorv => row(RORV, rd, rn, rm, Rest::None),
+    }
+}
+
+fn op1_assembly(op: Op1, rd: u32, rn: u32) -> Assembled
+    requires { ⌜ (rd < 32) × (rn < 32) ⌝ }
+    ensures { λ r. ⌜ Assembles r (op1-syntax op (X rd) (X rn)) ⌝ }
+{
+    match op {
+        Op1::Rev => row(REV, rd, rn, NONE, Rest::None),
+        Op1::Clz => row(CLZ, rd, rn, NONE, Rest::None),
     }
 }
 
@@ -115,5 +142,6 @@ pub fn assembly(f: Form) -> Assembled
         Form::Blr(rn) => row(BLR, rn, NONE, NONE, Rest::None),
         Form::Ret => row(RET, 30, NONE, NONE, Rest::None),
         Form::Unreadable => row(0, NONE, NONE, NONE, Rest::None),
+        Form::OneSource(op, rd, rn) => op1_assembly(op, rd, rn),
     }
 }

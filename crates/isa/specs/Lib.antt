@@ -3,3 +3,4 @@ pub mod Classes
 pub mod Isa
 pub mod Decode
 pub mod Parts
+pub mod Zbb

@@ -1,6 +1,7 @@
 // Instruction fields, immediates and opcode classes: isa.rs and decode.rs.
 pub mod classes;
 pub mod decode;
+pub mod zbb;
 
 // Opcodes, bits 6 to 0.
 pub const OPCODE_LUI: u32 = 0b0110111;

@@ -2,10 +2,11 @@
 use mathlib.Core.Path.{_≡_, refl, sym, ap, _∙_}
 use mathlib.Core.Bool.{Bool, true, false, cond, _||_}
 use mathlib.Core.List.{List, [], _∷_, _++_}
-use Prim.Native.Nat.{ℕ, suc, _+_, _*_, _/_, _≤_, _<_}
+use Prim.Native.Nat.{ℕ, suc, _+_, _*_, _/_, _%_, _^_, _≤_, _<_}
 use native.Mathlib.Nat.{mul-suc}
 use native.Mathlib.Numerals.{add-one}
 use native.Mathlib.Omega.{arith}
+use lib.Dec.{eqb}
 use lib.ListN.{length, drop, length-append}
 use Rattle.le.specs.Le.{words, load, splice}
 use Rattle.le.proofs.Splices.{splice-append}
@@ -13,8 +14,9 @@ use Rattle.le.proofs.Lists.{numbers-at, numbers-over}
 use Rattle.ascii.specs.Parts.{Put}
 use Rattle.ascii.proofs.Numbers.{hex-length}
 use Rattle.a64.specs.declared.Form.{Form}
-use Rattle.a64.specs.declared.Form.the-variants.{DataProcessing, Ldr, Str, Movz, Movk, Cmp, Csel, Sxtw, AddSp, SubSp, Blr, Ret, Unreadable}
-use Rattle.a64.specs.Forms.{decode}
+use Rattle.a64.specs.declared.Form.the-variants.{DataProcessing, OneSource, Ldr, Str, Movz, Movk, Cmp, Csel, Sxtw, AddSp, SubSp, Blr, Ret, Unreadable}
+use Rattle.a64.specs.declared.Op.{Op}
+use Rattle.a64.specs.Forms.{op-word, ops, op-bits, decode-op, decode-register, decode}
 use Rattle.a64.proofs.Coding.{decode-in-range, encode-decode}
 use Rattle.a64_text.specs.Text.{syntax, text}
 use Rattle.a64_text.specs.Parts as Text
@@ -31,6 +33,37 @@ pub outside-cond : (b : Bool) (f g : Form) → outside (cond b f g) ≡ cond b (
 outside-cond true f g = refl
 outside-cond false f g = refl
 
+-- the same, where both are known; and of the operations one after the other
+chosen : (b : Bool) (f g : Form) (m n : ℕ) → outside f ≡ m → outside g ≡ n → outside (cond b f g) ≡ cond b m n
+chosen true f g m n p q = p
+chosen false f g m n p q = q
+
+unfoldable pub none-of : List Op → ℕ → ℕ
+none-of [] w = 1
+none-of (op ∷ os) w = cond (eqb (op-bits w) (op-bits (op-word op))) 0 (none-of os w)
+
+pub none-is : (os : List Op) (w : ℕ) → outside (decode-op os w) ≡ none-of os w
+unfolding none-of
+none-is [] w = refl
+none-is (op ∷ os) w = chosen (eqb (op-bits w) (op-bits (op-word op))) _ _ 0 (none-of os w) refl (none-is os w)
+
+pub register-is : (w : ℕ) → outside (decode-register w)
+    ≡ cond (eqb (w / 2 ^ 21) 0x758) (cond (eqb (w / 2 ^ 10 % 64) 0) (cond (eqb (w % 32) 31) 0 1) 1)
+    (cond (eqb (w / 2 ^ 21) 0x4D4) (cond (eqb (w / 2 ^ 10 % 4) 0) 0 1)
+    (cond (eqb (w / 2 ^ 21) 0x49A) (cond (eqb (w / 2 ^ 10 % 2048) 31) 0 1)
+    (cond (eqb (w / 2 ^ 21) 0x6B1) (cond (eqb (w / 2 ^ 10 % 2048) 0x7C0) (cond (eqb (w % 32) 0) 0 1) 1)
+    (cond (eqb (w / 2 ^ 21) 0x6B2) (cond (eqb (w % 2 ^ 21) 0x1F03C0) 0 1)
+    (cond (eqb (w / 2 ^ 21) 0x6D6) (cond (eqb (w / 2 ^ 10 % 2048) 3) 0 (cond (eqb (w / 2 ^ 10 % 2048) 4) 0 1))
+    (outside (decode-op ops w)))))))
+register-is w =
+    chosen (eqb (w / 2 ^ 21) 0x758) _ _ _ _ (chosen (eqb (w / 2 ^ 10 % 64) 0) _ _ _ _ (chosen (eqb (w % 32) 31) _ _ _ _ refl refl) refl)
+    (chosen (eqb (w / 2 ^ 21) 0x4D4) _ _ _ _ (chosen (eqb (w / 2 ^ 10 % 4) 0) _ _ _ _ refl refl)
+    (chosen (eqb (w / 2 ^ 21) 0x49A) _ _ _ _ (chosen (eqb (w / 2 ^ 10 % 2048) 31) _ _ _ _ refl refl)
+    (chosen (eqb (w / 2 ^ 21) 0x6B1) _ _ _ _ (chosen (eqb (w / 2 ^ 10 % 2048) 0x7C0) _ _ _ _ (chosen (eqb (w % 32) 0) _ _ _ _ refl refl) refl)
+    (chosen (eqb (w / 2 ^ 21) 0x6B2) _ _ _ _ (chosen (eqb (w % 2 ^ 21) 0x1F03C0) _ _ _ _ refl refl)
+    (chosen (eqb (w / 2 ^ 21) 0x6D6) _ _ _ _ (chosen (eqb (w / 2 ^ 10 % 2048) 3) _ _ _ _ refl (chosen (eqb (w / 2 ^ 10 % 2048) 4) _ _ _ _ refl refl))
+    refl)))))
+
 pub unreadable : (f : Form) → is-outside f ≡ true → f ≡ Unreadable
 unreadable (DataProcessing op rd rn rm) h = absurd (apart h)
 unreadable (Ldr rt rn imm) h = absurd (apart h)
@@ -39,6 +72,7 @@ unreadable (Movz rd hw imm) h = absurd (apart h)
 unreadable (Movk rd hw imm) h = absurd (apart h)
 unreadable (Cmp rn rm) h = absurd (apart h)
 unreadable (Csel rd rn rm c) h = absurd (apart h)
+unreadable (OneSource op rd rn) h = absurd (apart h)
 unreadable (Sxtw rd rn) h = absurd (apart h)
 unreadable (AddSp imm) h = absurd (apart h)
 unreadable (SubSp imm) h = absurd (apart h)

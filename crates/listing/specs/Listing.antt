@@ -9,7 +9,7 @@ use Rattle.rules.specs.Limits.{longest-line}
 use Rattle.rules.specs.Refusals as Refusals
 use Rattle.le.specs.Le.{words, load}
 use Rattle.a64.specs.declared.Form.{Form}
-use Rattle.a64.specs.declared.Form.the-variants.{DataProcessing, Ldr, Str, Movz, Movk, Cmp, Csel, Sxtw, AddSp, SubSp, Blr, Ret, Unreadable}
+use Rattle.a64.specs.declared.Form.the-variants.{DataProcessing, OneSource, Ldr, Str, Movz, Movk, Cmp, Csel, Sxtw, AddSp, SubSp, Blr, Ret, Unreadable}
 use Rattle.a64.specs.Forms.{encode, decode}
 use Rattle.ascii.specs.Ascii.{ascii, hex}
 use Rattle.a64_text.specs.Text.{syntax, text}
@@ -38,7 +38,7 @@ unfoldable pub listing : List Line → List ℕ
 listing [] = []
 listing (l ∷ ls) = line l ++ listing ls
 
--- whether a form is none of the 24
+-- whether a form is none of the 30
 abbrev pub is-outside : Form → Bool
 is-outside (DataProcessing op rd rn rm) = false
 is-outside (Ldr rt rn imm) = false
@@ -47,6 +47,7 @@ is-outside (Movz rd hw imm) = false
 is-outside (Movk rd hw imm) = false
 is-outside (Cmp rn rm) = false
 is-outside (Csel rd rn rm c) = false
+is-outside (OneSource op rd rn) = false
 is-outside (Sxtw rd rn) = false
 is-outside (AddSp imm) = false
 is-outside (SubSp imm) = false

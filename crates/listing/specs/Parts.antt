@@ -11,7 +11,7 @@ use Rattle.listing.specs.Listing.{Line, block-lines, is-outside, any-out
 abbrev pub line-of : ℕ → ℕ → Line
 line-of at w = record { offset = at; word = w; form = decode w }
 
--- 1 for a form that is none of the 24, else 0
+-- 1 for a form that is none of the 30, else 0
 abbrev pub outside : Form → ℕ
 outside f = cond (is-outside f) 1 0
 

@@ -21,9 +21,13 @@ fn outside_op(w: u32) -> u32
     let r = pick(bits == 0x1_379F, 0, r);
     let r = pick(bits == 0x1_369F, 0, r);
     let r = pick(bits == 0x1_361F, 0, r);
+    let r = pick(bits == 0x1_358B, 0, r);
     let r = pick(bits == 0x1_358A, 0, r);
     let r = pick(bits == 0x1_3589, 0, r);
     let r = pick(bits == 0x1_3588, 0, r);
+    let r = pick(bits == 0x1_9440, 0, r);
+    let r = pick(bits == 0x1_5440, 0, r);
+    let r = pick(bits == 0x1_1440, 0, r);
     let r = pick(bits == 0x1_9400, 0, r);
     let r = pick(bits == 0x1_5400, 0, r);
     let r = pick(bits == 0x1_1400, 0, r);
@@ -37,6 +41,8 @@ fn outside_register(w: u32) -> u32
 {
     let top = w / 0x20_0000;
     let r = outside_op(w);
+    let clz = pick(w / 1024 % 2048 == 4, 0, 1);
+    let r = pick(top == 0x6D6, pick(w / 1024 % 2048 == 3, 0, clz), r);
     let r = pick(top == 0x6B2, pick(w % 0x20_0000 == 0x1F_03C0, 0, 1), r);
     let blr = pick(w % 32 == 0, 0, 1);
     let r = pick(top == 0x6B1, pick(w / 1024 % 2048 == 0x7C0, blr, 1), r);

@@ -3,3 +3,9 @@ pub mod Integers
 pub mod Products
 pub mod Extend
 pub mod Signs
+pub mod Counting
+pub mod Fields
+pub mod Ones
+pub mod Zeros
+pub mod Orc
+pub mod Turns

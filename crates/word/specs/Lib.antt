@@ -1,1 +1,3 @@
 pub mod Word
+pub mod Counts
+pub mod Bytes

@@ -3,6 +3,9 @@ ghost use mathlib.Core.Path.{_≡_};
 ghost use Prim.Native.Nat.{_*_, _<_, _≤_, _^_};
 ghost use Rattle.word.specs.Word as W;
 
+pub mod bytes;
+pub mod counts;
+
 // x - y, modulo 2^64.
 pub fn sub(x: u64, y: u64) -> u64
     ensures { λ r. ⌜ r ≡ W.sub x y ⌝ }

@@ -6,6 +6,10 @@ use Rattle.a64.proofs.decode_op.Tie as tie
 returns : tie.Need-returns
 returns c =
     simp (
+      ne-eqb _ _ (c .match .rest .0 .0 .0 .0 .0 .0 .0 .0 .0 .0 .0 .0 .0 .0 .0 .0 .1),
+      ne-eqb _ _ (c .match .rest .0 .0 .0 .0 .0 .0 .0 .0 .0 .0 .0 .0 .0 .0 .0 .1),
+      ne-eqb _ _ (c .match .rest .0 .0 .0 .0 .0 .0 .0 .0 .0 .0 .0 .0 .0 .0 .1),
+      ne-eqb _ _ (c .match .rest .0 .0 .0 .0 .0 .0 .0 .0 .0 .0 .0 .0 .0 .1),
       ne-eqb _ _ (c .match .rest .0 .0 .0 .0 .0 .0 .0 .0 .0 .0 .0 .0 .1),
       ne-eqb _ _ (c .match .rest .0 .0 .0 .0 .0 .0 .0 .0 .0 .0 .0 .1),
       ne-eqb _ _ (c .match .rest .0 .0 .0 .0 .0 .0 .0 .0 .0 .0 .1),
@@ -60,6 +64,18 @@ returns-13 c = rw (c .match .keys12)
 returns-14 : tie.Need-returns-14
 returns-14 c = rw (c .match .keys13)
 
+returns-15 : tie.Need-returns-15
+returns-15 c = rw (c .match .keys14)
+
+returns-16 : tie.Need-returns-16
+returns-16 c = rw (c .match .keys15)
+
+returns-17 : tie.Need-returns-17
+returns-17 c = rw (c .match .keys16)
+
+returns-18 : tie.Need-returns-18
+returns-18 c = rw (c .match .keys17)
+
 pub decode-op-spec : {M : Type 1} → statement M
 decode-op-spec =
     tie.close
@@ -79,4 +95,8 @@ decode-op-spec =
     returns-11
     returns-12
     returns-13
-    returns-14)
+    returns-14
+    returns-15
+    returns-16
+    returns-17
+    returns-18)

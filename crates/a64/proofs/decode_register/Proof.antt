@@ -20,10 +20,13 @@ returns-5 : tie.Need-returns-5
 returns-5 c = c .form-if7 .ensures ∙ simp (c .before .match .keys5)
 
 returns-6 : tie.Need-returns-6
-returns-6 c =
+returns-6 c = c .decode-one .ensures ∙ simp (c .before .match .keys6)
+
+returns-7 : tie.Need-returns-7
+returns-7 c =
     let r = c .before .match .rest in
     c .decode-op .ensures
-    ∙ simp (ne-eqb _ _ (r .0 .0 .0 .0 .1), ne-eqb _ _ (r .0 .0 .0 .1), ne-eqb _ _ (r .0 .0 .1), ne-eqb _ _ (r .0 .1), ne-eqb _ _ (r .1))
+    ∙ simp (ne-eqb _ _ (r .0 .0 .0 .0 .0 .1), ne-eqb _ _ (r .0 .0 .0 .0 .1), ne-eqb _ _ (r .0 .0 .0 .1), ne-eqb _ _ (r .0 .0 .1), ne-eqb _ _ (r .0 .1), ne-eqb _ _ (r .1))
 
 pub decode-register-spec : {M : Type 1} → statement M
 decode-register-spec =
@@ -37,9 +40,11 @@ decode-register-spec =
     (λ c κs. search needs)
     (λ c κs. search needs)
     (λ c κs. search needs)
+    (λ c κs. search needs)
     returns
     returns-2
     returns-3
     returns-4
     returns-5
-    returns-6)
+    returns-6
+    returns-7)

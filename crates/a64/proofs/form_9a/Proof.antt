@@ -18,7 +18,10 @@ returns-5 : tie.Need-returns-5
 returns-5 c = simp (ne-eqb _ _ (c .before .if1 .left), c .match .keys4)
 
 returns-6 : tie.Need-returns-6
-returns-6 c = simp (ne-eqb _ _ (c .before .if1 .left), ne-eqb _ _ (c .match .rest .0 .0 .0 .1), ne-eqb _ _ (c .match .rest .0 .0 .1), ne-eqb _ _ (c .match .rest .0 .1), ne-eqb _ _ (c .match .rest .1))
+returns-6 c = simp (ne-eqb _ _ (c .before .if1 .left), c .match .keys5)
+
+returns-7 : tie.Need-returns-7
+returns-7 c = simp (ne-eqb _ _ (c .before .if1 .left), ne-eqb _ _ (c .match .rest .0 .0 .0 .0 .1), ne-eqb _ _ (c .match .rest .0 .0 .0 .1), ne-eqb _ _ (c .match .rest .0 .0 .1), ne-eqb _ _ (c .match .rest .0 .1), ne-eqb _ _ (c .match .rest .1))
 
 pub form-9a-spec : {M : Type 1} → statement M
 form-9a-spec =
@@ -29,4 +32,5 @@ form-9a-spec =
     returns-3
     returns-4
     returns-5
-    returns-6)
+    returns-6
+    returns-7)

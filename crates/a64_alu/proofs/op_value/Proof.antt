@@ -57,6 +57,22 @@ returns-13 : tie.Need-returns-13
 unfolding op-value
 returns-13 c = rw (c .before .before .before .enum-told13 .given .1, ← c .before .before .get25 .ensures, ← c .before .get26 .ensures) (c .sdiv .ensures)
 
+returns-14 : tie.Need-returns-14
+unfolding op-value
+returns-14 c = rw (c .before .before .enum-told14 .given .1, ← c .before .get27 .ensures, ← c .get28 .ensures)
+
+returns-15 : tie.Need-returns-15
+unfolding op-value
+returns-15 c = rw (c .before .before .enum-told15 .given .1, ← c .before .get29 .ensures, ← c .get30 .ensures)
+
+returns-16 : tie.Need-returns-16
+unfolding op-value
+returns-16 c = rw (c .before .before .enum-told16 .given .1, ← c .before .get31 .ensures, ← c .get32 .ensures)
+
+returns-17 : tie.Need-returns-17
+unfolding op-value
+returns-17 c = rw (c .before .before .before .enum-told17 .given .1, ← c .before .before .get33 .ensures, ← c .before .get34 .ensures) (c .ror .ensures)
+
 pub op-value-spec : {M : Type 1} → statement M
 op-value-spec =
     tie.close
@@ -111,6 +127,20 @@ op-value-spec =
     (λ c κs. search needs)
     (λ c κs. search needs)
     (λ c κs. search needs)
+    (λ c. search needs)
+    (λ c κs. search needs)
+    (λ c κs. search needs)
+    (λ c. search needs)
+    (λ c κs. search needs)
+    (λ c κs. search needs)
+    (λ c. search needs)
+    (λ c κs. search needs)
+    (λ c κs. search needs)
+    (λ c. search needs)
+    (λ c κs. search needs)
+    (λ c κs. search needs)
+    (λ c. search needs)
+    (λ c κs. search needs)
     returns
     returns-2
     returns-3
@@ -123,4 +153,8 @@ op-value-spec =
     returns-10
     returns-11
     returns-12
-    returns-13)
+    returns-13
+    returns-14
+    returns-15
+    returns-16
+    returns-17)

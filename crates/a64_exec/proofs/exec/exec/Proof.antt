@@ -115,6 +115,14 @@ unreadable c =
     let s = c .before .before .before .before in
     by-leave (s .args .f) (state s) _ _ _ (c .leave6 .result) (s .pre .0) (rw (c .before .enum-told3 .given .1)) (c .leave6 .ensures)
 
+one-source : tie.Need-returns-14
+unfolding exec
+one-source c =
+    let s = c .before .before .before .before .before .before .before .before .before in
+    by-result (s .args .f) (state s) _ _ (c .result6 .result) _ (s .pre .0)
+    (rw (c .before .before .before .before .before .before .f11 .given .1, c .before .op1-value .ensures, c .before .before .get5 .ensures))
+    (c .result6 .ensures)
+
 pub exec-spec : {M : Type 1} → statement M
 exec-spec =
     tie.close
@@ -162,6 +170,10 @@ exec-spec =
     (λ c κs. search needs)
     (λ c. search needs)
     (λ c κs. search needs)
+    (λ c. search needs)
+    (λ c κs. search needs)
+    (λ c κs. search needs)
+    (λ c κs. search needs)
     data-processing
     (λ c. search needs)
     loads
@@ -176,4 +188,5 @@ exec-spec =
     sub-sp
     blr
     ret
-    unreadable)
+    unreadable
+    one-source)

@@ -11,17 +11,20 @@ use Rattle.a64_text.proofs.assembly.assembly.Tie as tie
 op-assembly-requires : tie.Need-op-assembly-requires
 op-assembly-requires c κs = rw (c .before .f .given .1) at (c .before .before .before .pre .fits)
 
-mul-t30 : tie.Need-mul-t30
-mul-t30 c = let h = rw (c .before .f2 .given .1) at (c .before .before .before .pre .fits) in search needs
+op1-assembly-requires : tie.Need-op1-assembly-requires
+op1-assembly-requires c κs = rw (c .before .f12 .given .1) at (c .before .before .before .pre .fits)
 
-mul-t32 : tie.Need-mul-t32
-mul-t32 c = let h = rw (c .before .f3 .given .1) at (c .before .before .before .pre .fits) in search needs
+mul-t33 : tie.Need-mul-t33
+mul-t33 c = let h = rw (c .before .f2 .given .1) at (c .before .before .before .pre .fits) in search needs
 
-mul-t34 : tie.Need-mul-t34
-mul-t34 c = let h = rw (c .before .f4 .given .1) at (c .before .before .before .pre .fits) in search needs
+mul-t35 : tie.Need-mul-t35
+mul-t35 c = let h = rw (c .before .f3 .given .1) at (c .before .before .before .pre .fits) in search needs
 
-mul-t36 : tie.Need-mul-t36
-mul-t36 c = let h = rw (c .before .f5 .given .1) at (c .before .before .before .pre .fits) in search needs
+mul-t37 : tie.Need-mul-t37
+mul-t37 c = let h = rw (c .before .f4 .given .1) at (c .before .before .before .pre .fits) in search needs
+
+mul-t39 : tie.Need-mul-t39
+mul-t39 c = let h = rw (c .before .f5 .given .1) at (c .before .before .before .pre .fits) in search needs
 
 returns : tie.Need-returns
 returns c = rw (c .before .before .f .given .1) (c .op-assembly .ensures)
@@ -73,6 +76,9 @@ returns-12 c = rw (c .before .enum-told .given .1, c .row11 .ensures) (one _ _ "
 returns-13 : tie.Need-returns-13
 returns-13 c = absurd (c .before .before .before .pre .form (c .before .enum-told2 .given .1))
 
+returns-14 : tie.Need-returns-14
+returns-14 c = rw (c .before .before .f12 .given .1) (c .op1-assembly .ensures)
+
 pub assembly-spec : {M : Type 1} → statement M
 assembly-spec =
     tie.close
@@ -80,18 +86,16 @@ assembly-spec =
     (λ c. search needs)
     op-assembly-requires
     (λ c. search needs)
-    mul-t30
+    mul-t33
     (λ c κs. search needs)
     (λ c. search needs)
-    mul-t32
+    mul-t35
     (λ c κs. search needs)
     (λ c. search needs)
-    mul-t34
+    mul-t37
     (λ c κs. search needs)
     (λ c. search needs)
-    mul-t36
-    (λ c κs. search needs)
-    (λ c. search needs)
+    mul-t39
     (λ c κs. search needs)
     (λ c. search needs)
     (λ c κs. search needs)
@@ -107,6 +111,10 @@ assembly-spec =
     (λ c κs. search needs)
     (λ c. search needs)
     (λ c κs. search needs)
+    (λ c. search needs)
+    (λ c κs. search needs)
+    (λ c. search needs)
+    op1-assembly-requires
     returns
     returns-2
     returns-3
@@ -119,4 +127,5 @@ assembly-spec =
     returns-10
     returns-11
     returns-12
-    returns-13)
+    returns-13
+    returns-14)

@@ -59,10 +59,34 @@ returns-13 : tie.Need-returns-13
 unfolding mnemonic-bytes bytes
 returns-13 c = rw (c .before .enum-told13 .given .1, c .row13 .ensures) (three _ _ "sdiv" refl (lit< tt) tt _ _ _ (c .before .before .before .pre .0) (c .before .before .before .pre .1) (c .before .before .before .pre .2))
 
+returns-14 : tie.Need-returns-14
+unfolding mnemonic-bytes bytes
+returns-14 c = rw (c .before .enum-told14 .given .1, c .row14 .ensures) (three _ _ "bic" refl (lit< tt) tt _ _ _ (c .before .before .before .pre .0) (c .before .before .before .pre .1) (c .before .before .before .pre .2))
+
+returns-15 : tie.Need-returns-15
+unfolding mnemonic-bytes bytes
+returns-15 c = rw (c .before .enum-told15 .given .1, c .row15 .ensures) (three _ _ "orn" refl (lit< tt) tt _ _ _ (c .before .before .before .pre .0) (c .before .before .before .pre .1) (c .before .before .before .pre .2))
+
+returns-16 : tie.Need-returns-16
+unfolding mnemonic-bytes bytes
+returns-16 c = rw (c .before .enum-told16 .given .1, c .row16 .ensures) (three _ _ "eon" refl (lit< tt) tt _ _ _ (c .before .before .before .pre .0) (c .before .before .before .pre .1) (c .before .before .before .pre .2))
+
+returns-17 : tie.Need-returns-17
+unfolding mnemonic-bytes bytes
+returns-17 c = rw (c .before .enum-told17 .given .1, c .row17 .ensures) (three _ _ "rorv" refl (lit< tt) tt _ _ _ (c .before .before .before .pre .0) (c .before .before .before .pre .1) (c .before .before .before .pre .2))
+
 pub op-assembly-spec : {M : Type 1} → statement M
 op-assembly-spec =
     tie.close
     (tie.spec
+    (λ c. search needs)
+    (λ c κs. search needs)
+    (λ c. search needs)
+    (λ c κs. search needs)
+    (λ c. search needs)
+    (λ c κs. search needs)
+    (λ c. search needs)
+    (λ c κs. search needs)
     (λ c. search needs)
     (λ c κs. search needs)
     (λ c. search needs)
@@ -101,4 +125,8 @@ op-assembly-spec =
     returns-10
     returns-11
     returns-12
-    returns-13)
+    returns-13
+    returns-14
+    returns-15
+    returns-16
+    returns-17)
