@@ -1,3 +1,4 @@
 pub mod Writers
+pub mod Zbb
 pub mod Emitter
 pub mod Parts

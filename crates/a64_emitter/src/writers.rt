@@ -2,6 +2,7 @@
 ghost use mathlib.Core.Path.{_≡_};
 ghost use Prim.Native.Nat.{_+_, _*_, _^_, _<_, _≤_};
 ghost use Rattle.a64_emitter.specs.Writers as Writers;
+ghost use Rattle.a64_emitter.specs.Zbb as Zbb;
 use crate::A64Emitter;
 
 // The fixed bits of a form, with three registers.
@@ -182,5 +183,48 @@ impl A64Emitter {
         ensures { λ r. ⌜ r ≡ Writers.ret ⌝ }
     {
         0xD65F_03C0
+    }
+
+    // The forms that Zbb needs.
+    pub fn bic_x(rd: u8, rn: u8, rm: u8) -> u32
+        requires { ⌜ (rd < 32) × (rn < 32) × (rm < 32) ⌝ }
+        ensures { λ r. ⌜ r ≡ Zbb.bic-x rd rn rm ⌝ }
+    {
+        three_registers(0x8A20_0000, rd, rn, rm)
+    }
+
+    pub fn orn_x(rd: u8, rn: u8, rm: u8) -> u32
+        requires { ⌜ (rd < 32) × (rn < 32) × (rm < 32) ⌝ }
+        ensures { λ r. ⌜ r ≡ Zbb.orn-x rd rn rm ⌝ }
+    {
+        three_registers(0xAA20_0000, rd, rn, rm)
+    }
+
+    pub fn eon_x(rd: u8, rn: u8, rm: u8) -> u32
+        requires { ⌜ (rd < 32) × (rn < 32) × (rm < 32) ⌝ }
+        ensures { λ r. ⌜ r ≡ Zbb.eon-x rd rn rm ⌝ }
+    {
+        three_registers(0xCA20_0000, rd, rn, rm)
+    }
+
+    pub fn rorv_x(rd: u8, rn: u8, rm: u8) -> u32
+        requires { ⌜ (rd < 32) × (rn < 32) × (rm < 32) ⌝ }
+        ensures { λ r. ⌜ r ≡ Zbb.rorv-x rd rn rm ⌝ }
+    {
+        three_registers(0x9AC0_2C00, rd, rn, rm)
+    }
+
+    pub fn rev_x(rd: u8, rn: u8) -> u32
+        requires { ⌜ (rd < 32) × (rn < 32) ⌝ }
+        ensures { λ r. ⌜ r ≡ Zbb.rev-x rd rn ⌝ }
+    {
+        0xDAC0_0C00 + (rn as u32) * 32 + rd as u32
+    }
+
+    pub fn clz_x(rd: u8, rn: u8) -> u32
+        requires { ⌜ (rd < 32) × (rn < 32) ⌝ }
+        ensures { λ r. ⌜ r ≡ Zbb.clz-x rd rn ⌝ }
+    {
+        0xDAC0_1000 + (rn as u32) * 32 + rd as u32
     }
 }

@@ -40,51 +40,21 @@ pub enum Found {
     Nothing,
 }
 
-fn shift_of(w: u32) -> Found
-    ensures { λ r. ⌜ r ≡ Z.shift-of w ⌝ }
+// funct7, funct3 and the opcode, side by side; the same of funct12, and of funct6.
+pub fn funct7_key(w: u32) -> u32
+    ensures { λ r. ⌜ r ≡ Z.key 25 w ⌝ }
 {
-    if w / 0x400_0000 * 1024 + w / 4096 % 8 * 128 + w % 128 == 0b011000_101_0010011 {
-        return Found::Number(Zbb::Ror, (w / 0x10_0000 % 64) as u64);
-    }
-    Found::Nothing
+    w / 0x200_0000 * 1024 + w / 4096 % 8 * 128 + w % 128
 }
 
-fn unary_of(w: u32) -> Found
-    ensures { λ r. ⌜ r ≡ Z.unary-of w ⌝ }
+pub fn funct12_key(w: u32) -> u32
+    ensures { λ r. ⌜ r ≡ Z.key 20 w ⌝ }
 {
-    match w / 0x10_0000 * 1024 + w / 4096 % 8 * 128 + w % 128 {
-        0b011000000000_001_0010011 => Found::Unary(Zbb::Clz),
-        0b011000000001_001_0010011 => Found::Unary(Zbb::Ctz),
-        0b011000000010_001_0010011 => Found::Unary(Zbb::Cpop),
-        0b011000000000_001_0011011 => Found::Unary(Zbb::Clzw),
-        0b011000000001_001_0011011 => Found::Unary(Zbb::Ctzw),
-        0b011000000010_001_0011011 => Found::Unary(Zbb::Cpopw),
-        0b011000000100_001_0010011 => Found::Unary(Zbb::SextB),
-        0b011000000101_001_0010011 => Found::Unary(Zbb::SextH),
-        0b000010000000_100_0111011 => Found::Unary(Zbb::ZextH),
-        0b001010000111_101_0010011 => Found::Unary(Zbb::OrcB),
-        0b011010111000_101_0010011 => Found::Unary(Zbb::Rev8),
-        _ => shift_of(w),
-    }
+    w / 0x10_0000 * 1024 + w / 4096 % 8 * 128 + w % 128
 }
 
-// The Zbb instruction of a word.
-pub fn find(w: u32) -> Found
-    ensures { λ r. ⌜ r ≡ Z.find w ⌝ }
+pub fn funct6_key(w: u32) -> u32
+    ensures { λ r. ⌜ r ≡ Z.key 26 w ⌝ }
 {
-    match w / 0x200_0000 * 1024 + w / 4096 % 8 * 128 + w % 128 {
-        0b0100000_111_0110011 => Found::Register(Zbb::Andn),
-        0b0100000_110_0110011 => Found::Register(Zbb::Orn),
-        0b0100000_100_0110011 => Found::Register(Zbb::Xnor),
-        0b0000101_110_0110011 => Found::Register(Zbb::Max),
-        0b0000101_111_0110011 => Found::Register(Zbb::Maxu),
-        0b0000101_100_0110011 => Found::Register(Zbb::Min),
-        0b0000101_101_0110011 => Found::Register(Zbb::Minu),
-        0b0110000_001_0110011 => Found::Register(Zbb::Rol),
-        0b0110000_101_0110011 => Found::Register(Zbb::Ror),
-        0b0110000_001_0111011 => Found::Register(Zbb::Rolw),
-        0b0110000_101_0111011 => Found::Register(Zbb::Rorw),
-        0b0110000_101_0011011 => Found::Number(Zbb::Rorw, (w / 0x10_0000 % 32) as u64),
-        _ => unary_of(w),
-    }
+    w / 0x400_0000 * 1024 + w / 4096 % 8 * 128 + w % 128
 }

@@ -7,7 +7,7 @@ max-instrs = 64
 
 -- the most words of an instruction inline, of one that a helper ends, and of the end of a block
 abbrev pub inline-words : ℕ
-inline-words = 29
+inline-words = 30
 
 abbrev pub helper-words : ℕ
 helper-words = 30
@@ -19,9 +19,16 @@ end-words = 6
 abbrev pub instr-words : ℕ
 instr-words = helper-words
 
--- and of a block
+-- what document 02, No. 7, allows an instruction, and with it a block of n instructions
+abbrev pub most-words : ℕ
+most-words = 40
+
+abbrev pub longest : ℕ → ℕ
+longest n = most-words * n + end-words
+
+-- any block
 abbrev pub max-words : ℕ
-max-words = max-instrs * inline-words + end-words
+max-words = longest max-instrs
 
 -- of a block in the short emitter: room for so many instructions and an end
 abbrev pub short-instrs : ℕ

@@ -5,7 +5,9 @@ use mathlib.Core.List.{List, [], _∷_}
 use Prim.Native.Nat.{ℕ, _+_, _*_}
 use lib.Dec.{ltb, eqb}
 use Rattle.isa.specs.declared.classes.Class.{Class}
+use Rattle.isa.specs.declared.zbb.Found.{Found}
 use Rattle.isa.specs.Classes.{class-of}
+use Rattle.isa.specs.Zbb.{find}
 use Rattle.isa.specs.Formats.{inst, opcode, rd, funct3, rs1, rs2, funct7, i-imm, b-imm, u-imm, j-imm}
 use Rattle.rv64.specs.declared.alu.Alu.{Alu}
 use Rattle.rv64.specs.declared.alu.Cond.{Cond}
@@ -183,5 +185,16 @@ by-class Class.Amo w = Instr.Helper
 by-class Class.System w = Instr.Uncovered
 by-class Class.Other w = Instr.Uncovered
 
+-- the base ISA with M
+unfoldable pub base32 : ℕ → Instr
+base32 w = by-class (class-of (opcode w)) w
+
+-- Zbb's (document 02, No. 7): with rs2, with a number, or with one operand
+unfoldable pub zbb-or : Found → ℕ → Instr → Instr
+zbb-or (Found.Register z) w i = Instr.Zbb z (rd w) (rs1 w) (rs2 w)
+zbb-or (Found.Number z n) w i = Instr.ZbbImm z (rd w) (rs1 w) n
+zbb-or (Found.Unary z) w i = Instr.ZbbImm z (rd w) (rs1 w) 0
+zbb-or Found.Nothing w i = i
+
 unfoldable pub decode32 : ℕ → Instr
-decode32 w = by-class (class-of (opcode w)) w
+decode32 w = zbb-or (find w) w (base32 w)

@@ -1,5 +1,5 @@
--- What an instruction does to the 32 registers and the PC, from the RISC-V Unprivileged ISA, chapters 'RV32I' and
--- 'RV64I'. Definitions only.
+-- What an instruction does to the 32 registers and the PC, from the RISC-V Unprivileged ISA, chapters 'RV32I', 'RV64I'
+-- and 'Zbb'. Definitions only.
 use mathlib.Core.Bool.{Bool, true, false, cond}
 use mathlib.Core.List.{List}
 use Prim.Native.Nat.{ℕ, _*_, _/_}
@@ -9,6 +9,7 @@ use Rattle.word.specs.Word.{add}
 use Rattle.rv64.specs.declared.decode.Instr.{Instr}
 use Rattle.rv64.specs.declared.execute.Flow.{Flow}
 use Rattle.rv64.specs.Alu.{value, taken}
+use Rattle.rv64.specs.Zbb.{zbb-value}
 
 -- register 0 reads as 0, and is never written
 unfoldable pub read : List ℕ → ℕ → ℕ
@@ -33,6 +34,8 @@ ended x pc = record { x = x; flow = Flow.Ended pc }
 unfoldable pub exec : Instr → ℕ → ℕ → List ℕ → Step
 exec (Instr.Op k rd rs1 rs2) n pc x = next (write x rd (value k (read x rs1) (read x rs2))) (add pc n)
 exec (Instr.OpImm k rd rs1 imm) n pc x = next (write x rd (value k (read x rs1) imm)) (add pc n)
+exec (Instr.Zbb k rd rs1 rs2) n pc x = next (write x rd (zbb-value k (read x rs1) (read x rs2))) (add pc n)
+exec (Instr.ZbbImm k rd rs1 imm) n pc x = next (write x rd (zbb-value k (read x rs1) imm)) (add pc n)
 exec (Instr.Lui rd imm) n pc x = next (write x rd imm) (add pc n)
 exec (Instr.Auipc rd imm) n pc x = next (write x rd (add pc imm)) (add pc n)
 exec (Instr.Jal rd imm) n pc x = ended (write x rd (add pc n)) (add pc imm)
@@ -48,6 +51,8 @@ exec Instr.Uncovered n pc x = record { x = x; flow = Flow.Uncovered }
 unfoldable pub covered : Instr → Bool
 covered (Instr.Op k rd rs1 rs2) = true
 covered (Instr.OpImm k rd rs1 imm) = true
+covered (Instr.Zbb k rd rs1 rs2) = true
+covered (Instr.ZbbImm k rd rs1 imm) = true
 covered (Instr.Lui rd imm) = true
 covered (Instr.Auipc rd imm) = true
 covered (Instr.Jal rd imm) = true

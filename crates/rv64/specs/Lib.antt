@@ -1,4 +1,5 @@
 pub mod Alu
+pub mod Zbb
 pub mod Decode
 pub mod Execute
 pub mod Parts

@@ -19,6 +19,7 @@ use crate::execute::apply;
 use crate::execute::ended;
 use crate::execute::put;
 use crate::execute::read;
+use isa::zbb::Zbb;
 
 // Opcodes.
 const OP: u32 = 0b0110011;
@@ -59,6 +60,9 @@ pub enum Instr {
     Op(Alu, u32, u32, u32),
     // rd, rs1, the second operand
     OpImm(Alu, u32, u32, u64),
+    // the same of Zbb; the second operand is 0 where there is none
+    Zbb(Zbb, u32, u32, u32),
+    ZbbImm(Zbb, u32, u32, u64),
     // rd, the constant
     Lui(u32, u64),
     // rd, what is added to the PC

@@ -8,4 +8,4 @@ pub mod Fields
 pub mod Ones
 pub mod Zeros
 pub mod Orc
-pub mod Turns
+pub mod Rotations

@@ -1,4 +1,4 @@
--- The bytes of a number, and its turns. Definitions only.
+-- The bytes of a number, and its rotations. Definitions only.
 use mathlib.Core.Bool.{cond}
 use Prim.Native.Nat.{ℕ, zero, suc, _+_, _-_, _*_, _/_, _%_, _^_}
 use lib.Dec.{eqb}
@@ -14,7 +14,7 @@ unfoldable pub combined : ℕ → ℕ → ℕ
 combined zero x = 0
 combined (suc m) x = combined m (x / 256) * 256 + cond (eqb (x % 256) 0) 0 255
 
--- turns of the 64 bits by s places, s below 64 (the ISA's ROR and ROL, Arm's ROR)
+-- rotations of the 64 bits by s places, s below 64 (the ISA's ROR and ROL, Arm's ROR)
 abbrev pub ror : ℕ → ℕ → ℕ
 ror x s = or64 (shr x s) (shl x (64 - s))
 

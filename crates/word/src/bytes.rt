@@ -1,4 +1,4 @@
-// The bytes of a register, and its turns.
+// The bytes of a register, and its rotations.
 ghost use mathlib.Core.Path.{_≡_};
 ghost use Prim.Native.Nat.{_<_};
 ghost use Rattle.word.specs.Bytes as B;
@@ -29,7 +29,7 @@ pub fn combined(x: u64) -> u64
     ((t >> 7) & 0x0101_0101_0101_0101) * 255
 }
 
-// A turn to the right by s places.
+// A rotation to the right by s places.
 pub fn ror(x: u64, s: u32) -> u64
     requires { ⌜ s < 64 ⌝ }
     ensures { λ r. ⌜ r ≡ B.ror x s ⌝ }

@@ -3,7 +3,7 @@ use Rattle.word.proofs.bytes.ror.Statement.{statement}
 use Rattle.word.proofs.bytes.ror.Tie as tie
 use native.Mathlib.Omega.{arith}
 use borrow.Author.Tests.{eqb-true}
-use Rattle.word.proofs.Turns.{ror-zero}
+use Rattle.word.proofs.Rotations.{ror-zero}
 
 -- src/lib.rt:78:9
 returns : tie.Need-returns

@@ -1,0 +1,1 @@
+// The words of Zbb instructions (document 02, No. 7).
