@@ -34,31 +34,31 @@ module _ (slot-offset : ℕ) where
   op-32-size : (d : Decoded32) → Within slot-offset inline-words (I32.op-32 d)
   unfolding I32.op-32 I32.op-32-arm Writers.mov-imm64 Writers.movk flatten short
   op-32-size d =
-      front slot-offset inline-words (load 9 (d .rs1) ∷ load 10 (d .rs2) ∷ []) _ tt (stored slot-offset {n = 26} (d .rd) _ (arm-size I32.ops-32 (d .funct7) (d .funct3) tt))
+      front slot-offset inline-words (load 9 (d .rs1) ∷ load 10 (d .rs2) ∷ []) _ tt (stored slot-offset {n = 27} (d .rd) _ (arm-size I32.ops-32 (d .funct7) (d .funct3) tt))
 
   op-size : (d : Decoded32) → Within slot-offset inline-words (I32.op d)
   unfolding I32.op I32.op-arm Writers.mov-imm64 Writers.movk flatten short
   op-size d =
-      front slot-offset inline-words (load 9 (d .rs1) ∷ load 10 (d .rs2) ∷ []) _ tt (stored slot-offset {n = 26} (d .rd) _ (arm-size I32.ops (d .funct7) (d .funct3) tt))
+      front slot-offset inline-words (load 9 (d .rs1) ∷ load 10 (d .rs2) ∷ []) _ tt (stored slot-offset {n = 27} (d .rd) _ (arm-size I32.ops (d .funct7) (d .funct3) tt))
 
   -- ---- the others: at most 4 words for each constant
 
-  op-imm-arm-size : (imm imm12 funct3 : ℕ) → Within slot-offset 27 (I32.op-imm-arm imm imm12 funct3)
+  op-imm-arm-size : (imm imm12 funct3 : ℕ) → Within slot-offset 28 (I32.op-imm-arm imm imm12 funct3)
   unfolding I32.op-imm-arm
-  op-imm-arm-size imm imm12 funct3 = search (pick, front slot-offset 27 (mov-imm64 10 (imm12 % 64) ∷ []), cheap, tt) depth 20
+  op-imm-arm-size imm imm12 funct3 = search (pick, front slot-offset 28 (mov-imm64 10 (imm12 % 64) ∷ []), cheap, tt) depth 20
 
   op-imm-size : (instr : ℕ) (d : Decoded32) → Within slot-offset inline-words (I32.op-imm instr d)
   unfolding I32.op-imm
-  op-imm-size instr d = front slot-offset inline-words (load 9 (d .rs1) ∷ []) _ tt (stored slot-offset {n = 27} (d .rd) _ (op-imm-arm-size (imm-i instr) (d .imm12) (d .funct3)))
+  op-imm-size instr d = front slot-offset inline-words (load 9 (d .rs1) ∷ []) _ tt (stored slot-offset {n = 28} (d .rd) _ (op-imm-arm-size (imm-i instr) (d .imm12) (d .funct3)))
 
-  op-imm-32-arm-size : (imm imm12 funct7 funct3 : ℕ) → Within slot-offset 27 (I32.op-imm-32-arm imm imm12 funct7 funct3)
+  op-imm-32-arm-size : (imm imm12 funct7 funct3 : ℕ) → Within slot-offset 28 (I32.op-imm-32-arm imm imm12 funct7 funct3)
   unfolding I32.op-imm-32-arm
-  op-imm-32-arm-size imm imm12 funct7 funct3 = search (pick, front slot-offset 27 (mov-imm64 10 (imm12 % 32) ∷ []), cheap, tt) depth 20
+  op-imm-32-arm-size imm imm12 funct7 funct3 = search (pick, front slot-offset 28 (mov-imm64 10 (imm12 % 32) ∷ []), cheap, tt) depth 20
 
   op-imm-32-size : (instr : ℕ) (d : Decoded32) → Within slot-offset inline-words (I32.op-imm-32 instr d)
   unfolding I32.op-imm-32
   op-imm-32-size instr d =
-      front slot-offset inline-words (load 9 (d .rs1) ∷ []) _ tt (stored slot-offset {n = 27} (d .rd) _ (op-imm-32-arm-size (imm-i instr) (d .imm12) (d .funct7) (d .funct3)))
+      front slot-offset inline-words (load 9 (d .rs1) ∷ []) _ tt (stored slot-offset {n = 28} (d .rd) _ (op-imm-32-arm-size (imm-i instr) (d .imm12) (d .funct7) (d .funct3)))
 
   pub instr-size : (pc instr : ℕ) (d : Decoded32) → Within slot-offset inline-words (I32.emit-native-instr pc instr d)
   unfolding I32.emit-native-instr I32.lui I32.auipc I32.jal I32.jalr I32.branch I32.branch-on I32.misc-mem

@@ -13,6 +13,9 @@ use Rattle.a64_emitter.specs.Writers as Writers
 use Rattle.a64_emitter.specs.Parts.{held, Added}
 use Rattle.a64_emitter.proofs.Emission.{constant-length, movk-none, emitted-all-new, emitted-fits}
 use Rattle.isa.specs.declared.decode.Decoded32.{Decoded32}
+use Rattle.isa.specs.declared.zbb.Found.{Found}
+use Rattle.isa.specs.Zbb.{find}
+use Rattle.isa.proofs.ZbbRows.{opcode-of}
 use Rattle.emit_native.specs.declared.EmitFlow.the-variants.{Terminate}
 use Rattle.emit_native.specs.declared.Emitted.{Emitted}
 use Rattle.emit_native.specs.declared.Host.{Host}
@@ -27,7 +30,9 @@ use Rattle.term_helper.specs.TermHelper.{call-helper, call-exec, load-calls, st
 use Rattle.emit_native.proofs.Size.{size, size-append, size-le, if-size, by}
 use Rattle.instr16.proofs.Size.{instr16-size}
 use Rattle.instr32.proofs.Size.{instr-size}
-use Rattle.jit_arm64.specs.Block.{is-32, emit-native, emit-term-helper}
+use Rattle.zbb.specs.Emission.{emission}
+use Rattle.zbb.proofs.Size.{zbb-size}
+use Rattle.jit_arm64.specs.Block.{is-32, emit-native, zbb-of, zbb-first, emit-inline, emit-term-helper}
 use Rattle.jit_arm64.specs.Parts.{Compiled}
 
 -- ---- words after others
@@ -54,16 +59,37 @@ put {l} {l′} {n} {r} {ws} room added =
     let m : r ≤ length l = added .room (omega arith) in
     record { long = added .long; holds = h; len = omega arith }
 
+-- ---- Zbb's instructions, and the others
+
+pub by-zbb : (P : Emission → Type 0) (f : Found) (instr : ℕ) (e : Emission) → ((f ≡ Found.Nothing → ⊥) → P (emission f instr)) → (f ≡ Found.Nothing → P e)
+    → P (zbb-first f instr e)
+unfolding zbb-first
+by-zbb P Found.Nothing instr e is other = other refl
+by-zbb P (Found.Register z) instr e is other = is (λ q. let y : _≡_ {A = ℕ} 0 1 = cc in omega arith)
+by-zbb P (Found.Number z n) instr e is other = is (λ q. let y : _≡_ {A = ℕ} 0 1 = cc in omega arith)
+by-zbb P (Found.Unary z) instr e is other = is (λ q. let y : _≡_ {A = ℕ} 0 1 = cc in omega arith)
+
+-- none is a helper's
+no-helper : (h : Host) (pc instr k : ℕ) → is-32 instr ≡ true → (find instr ≡ Found.Nothing → ⊥) → emit-term-helper h pc instr k ≡ none []
+unfolding emit-term-helper emit-native-term-helper32 opcode-helper
+no-helper h pc instr k t f =
+    opcode-of instr (emit-term-helper h pc instr k ≡ none []) (λ e. rw (t, e)) (λ e. rw (t, e)) (λ e. rw (t, e)) (λ e. rw (t, e)) f
+
 -- ---- the emitters by the width
 
 module _ (h : Host) (pc instr : ℕ) where
-  pub native16 : (low : ℕ) → low ≡ instr → (instr % 4 ≡ 3 → ⊥) → emit-native h pc instr ≡ emit-native-instr16 (h .«ignore_ebreak») pc low
-  unfolding emit-native
-  native16 low e n = rw (ne-eqb (instr % 4) 3 n, e) refl
+  pub inline16 : (low : ℕ) → low ≡ instr → (instr % 4 ≡ 3 → ⊥) → emit-inline product h pc instr ≡ emit-native-instr16 (h .«ignore_ebreak») pc low
+  unfolding emit-inline zbb-of zbb-first emit-native
+  inline16 low e n = rw (ne-eqb (instr % 4) 3 n, e) refl
 
-  pub native32 : (d : Decoded32) → d ≡ decode32 instr → instr % 4 ≡ 3 → emit-native h pc instr ≡ emit-native-instr pc instr d
-  unfolding emit-native
-  native32 d e n = rw (eq-eqb (instr % 4) 3 n, e) refl
+  pub inline32 : (d : Decoded32) → d ≡ decode32 instr → instr % 4 ≡ 3 → find instr ≡ Found.Nothing → emit-inline product h pc instr ≡ emit-native-instr pc instr d
+  unfolding emit-inline zbb-of zbb-first emit-native
+  inline32 d e n f = rw (eq-eqb (instr % 4) 3 n, f, e) refl
+
+  pub inline-zbb : instr % 4 ≡ 3 → (find instr ≡ Found.Nothing → ⊥) → emit-inline product h pc instr ≡ emission (find instr) instr
+  unfolding emit-inline zbb-of
+  inline-zbb n f =
+      rw (eq-eqb (instr % 4) 3 n) (by-zbb (λ (e : Emission). e ≡ emission (find instr) instr) (find instr) instr _ (λ g. refl) (λ g. absurd (f g)))
 
   pub helper16 : (k low : ℕ) → low ≡ instr → (instr % 4 ≡ 3 → ⊥) → emit-term-helper h pc instr k ≡ emit-native-term-helper16 h pc low k
   unfolding emit-term-helper
@@ -223,17 +249,32 @@ module _ (slot-offset : ℕ) where
   words-size cs = refl
 
   -- at most `inline-words` inline, and a helper's call apart from them
-  pub native-size : (h : Host) (pc instr : ℕ) → size slot-offset (emit-native h pc instr .calls) ≤ inline-words
+  native-size : (h : Host) (pc instr : ℕ) → size slot-offset (emit-native h pc instr .calls) ≤ inline-words
   unfolding emit-native
   native-size h pc instr =
       by (is-32 instr)
       (λ t. rw t (instr-size slot-offset pc instr (decode32 instr) .within))
       (λ t. rw t (instr16-size slot-offset (h .«ignore_ebreak») pc instr .within))
 
-  pub native-apart : (h : Host) (pc instr k : ℕ) → k < 65536 → Apart (emit-native h pc instr) (emit-term-helper h pc instr k)
+  native-apart : (h : Host) (pc instr k : ℕ) → k < 65536 → Apart (emit-native h pc instr) (emit-term-helper h pc instr k)
   unfolding emit-native emit-term-helper
   native-apart h pc instr k b =
       by (is-32 instr) (λ t. rw t (apart32 h pc instr (decode32 instr) k b (omega arith))) (λ t. rw t (apart16 h pc instr k b))
+
+  -- the same with Zbb first
+  pub inline-size : (h : Host) (pc instr : ℕ) → size slot-offset (emit-inline product h pc instr .calls) ≤ inline-words
+  unfolding emit-inline zbb-of zbb-first
+  inline-size h pc instr =
+      by (is-32 instr)
+      (λ t. rw t (by-zbb (λ (e : Emission). size slot-offset (e .calls) ≤ inline-words) (find instr) instr _ (λ f. zbb-size slot-offset instr .within) (λ f. native-size h pc instr)))
+      (λ t. rw t (native-size h pc instr))
+
+  pub inline-apart : (h : Host) (pc instr k : ℕ) → k < 65536 → Apart (emit-inline product h pc instr) (emit-term-helper h pc instr k)
+  unfolding emit-inline zbb-of zbb-first
+  inline-apart h pc instr k b =
+      by (is-32 instr)
+      (λ t. rw t (by-zbb (λ (e : Emission). Apart e (emit-term-helper h pc instr k)) (find instr) instr _ (λ f. inl (no-helper h pc instr k t f)) (λ f. native-apart h pc instr k b)))
+      (λ t. rw t (native-apart h pc instr k b))
 
   -- from a new emitter
   pub alone : (h : List ℕ) (e : Emission) (out : Emitted) (l : List ℕ) → h ≡ [] → Emits slot-offset h e out l → size slot-offset (e .calls) ≤ inline-words → held (out .em) l ≡ words slot-offset (e .calls)
@@ -249,18 +290,18 @@ module _ (slot-offset : ℕ) where
       rw (a .0) (emits .words ∙ emitted-all-new left (groups slot-offset (helper .calls)) (q ∙ rw (a .0)) (a .2))
 
   -- what the code's emitters answer
-  pub compiled : (h : Host) (pc instr : ℕ) {e : Emission} {new : List ℕ} {out : Emitted} {l : List ℕ} → emit-native h pc instr ≡ e → new ≡ [] → Emits slot-offset new e out l
-      → Compiled slot-offset (emit-native h pc instr .calls) (emit-native h pc instr .flow) out l
+  pub compiled : (h : Host) (pc instr : ℕ) {e : Emission} {new : List ℕ} {out : Emitted} {l : List ℕ} → emit-inline product h pc instr ≡ e → new ≡ [] → Emits slot-offset new e out l
+      → Compiled slot-offset (emit-inline product h pc instr .calls) (emit-inline product h pc instr .flow) out l
   compiled h pc instr {e} {new} {out} {l} q n emits =
-      let few = rw q at (native-size h pc instr) in
+      let few = rw q at (inline-size h pc instr) in
       rw q (record { long = emits .long; holds = alone new e out l n emits few; flow = emits .flow })
 
   pub compiled-helper : (h : Host) (pc instr k : ℕ) {helper : Emission} {left : List ℕ} {out : Emitted} {l : List ℕ} → k < 65536 → emit-term-helper h pc instr k ≡ helper
-      → left ≡ words slot-offset (emit-native h pc instr .calls) → Emits slot-offset left helper out l
-      → Compiled slot-offset (emit-native h pc instr .calls ++ emit-term-helper h pc instr k .calls) (emit-term-helper h pc instr k .flow) out l
+      → left ≡ words slot-offset (emit-inline product h pc instr .calls) → Emits slot-offset left helper out l
+      → Compiled slot-offset (emit-inline product h pc instr .calls ++ emit-term-helper h pc instr k .calls) (emit-term-helper h pc instr k .flow) out l
   compiled-helper h pc instr k {helper} {left} {out} {l} b q t emits =
-      let a = rw q at (native-apart h pc instr k b) in
-      rw q (record { long = emits .long; holds = handed-on (emit-native h pc instr) helper left out l a t emits; flow = emits .flow })
+      let a = rw q at (inline-apart h pc instr k b) in
+      rw q (record { long = emits .long; holds = handed-on (emit-inline product h pc instr) helper left out l a t emits; flow = emits .flow })
 
   -- the words of an instruction that a helper takes, and of one that is not covered
   pub helped-size : (e helper : Emission) → size slot-offset (e .calls) ≤ inline-words → Apart e helper → size slot-offset (e .calls ++ helper .calls) ≤ instr-words

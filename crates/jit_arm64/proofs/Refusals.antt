@@ -29,15 +29,15 @@ step-count Continue e helper n start k i rest up = omega (arith, up (suc k) (i +
 step-count Terminate e helper n start k i rest up = omega arith
 step-count None e helper n start k i rest up = helped-count (helper .flow) _ k _
 
-instr-count : (h : Host) (f : Option ℕ) (start k i : ℕ) (rest : ℕ → ℕ → Walk) → ((m j : ℕ) → m ≤ rest m j .count) → k ≤ instr-walk h f start k i rest .count
+instr-count : (d : Dialect) (h : Host) (f : Option ℕ) (start k i : ℕ) (rest : ℕ → ℕ → Walk) → ((m j : ℕ) → m ≤ rest m j .count) → k ≤ instr-walk d h f start k i rest .count
 unfolding instr-walk
-instr-count h none start k i rest up = omega arith
-instr-count h (some instr) start k i rest up = step-count _ _ _ (size-of instr) start k i rest up
+instr-count d h none start k i rest up = omega arith
+instr-count d h (some instr) start k i rest up = step-count _ _ _ (size-of instr) start k i rest up
 
-pub walk-count : (h : Host) (guest : List ℕ) (start left k i : ℕ) → k ≤ walk h guest start left k i .count
+pub walk-count : (d : Dialect) (h : Host) (guest : List ℕ) (start left k i : ℕ) → k ≤ walk d h guest start left k i .count
 unfolding walk
-walk-count h guest start zero k i = omega arith
-walk-count h guest start (suc left) k i = instr-count h _ start k i (walk h guest start left) (walk-count h guest start left)
+walk-count d h guest start zero k i = omega arith
+walk-count d h guest start (suc left) k i = instr-count d h _ start k i (walk d h guest start left) (walk-count d h guest start left)
 
 -- nothing is counted where the first instruction is missing or not covered
 helped-first : (f : EmitFlow) (cs : List Call) (pc : ℕ) → eqb (helped f cs 0 pc .count) 0 ≡ neither None f
@@ -53,11 +53,11 @@ step-first Continue e helper n start rest up = ne-eqb (rest 1 (0 + n) .count) 0 
 step-first Terminate e helper n start rest up = refl
 step-first None e helper n start rest up = helped-first (helper .flow) _ _
 
-instr-first : (h : Host) (f : Option ℕ) (start : ℕ) (rest : ℕ → ℕ → Walk) → ((m j : ℕ) → m ≤ rest m j .count)
-    → eqb (instr-walk h f start 0 0 rest .count) 0 ≡ (is-missing f || is-uncovered h (add start 0) f)
+instr-first : (d : Dialect) (h : Host) (f : Option ℕ) (start : ℕ) (rest : ℕ → ℕ → Walk) → ((m j : ℕ) → m ≤ rest m j .count)
+    → eqb (instr-walk d h f start 0 0 rest .count) 0 ≡ (is-missing f || is-uncovered d h (add start 0) f)
 unfolding instr-walk is-missing is-uncovered
-instr-first h none start rest up = refl
-instr-first h (some instr) start rest up = step-first _ _ _ (size-of instr) start rest up
+instr-first d h none start rest up = refl
+instr-first d h (some instr) start rest up = step-first _ _ _ (size-of instr) start rest up
 
 -- and then the stop says which of the two
 helped-why : (f : EmitFlow) (cs : List Call) (pc : ℕ) → missed (helped f cs 0 pc .stop) ≡ false
@@ -73,48 +73,48 @@ step-why Continue e helper n start rest up q = absurd (omega (arith, up 1 (0 + n
 step-why Terminate e helper n start rest up q = refl
 step-why None e helper n start rest up q = helped-why (helper .flow) _ _
 
-instr-why : (h : Host) (f : Option ℕ) (start : ℕ) (rest : ℕ → ℕ → Walk) → ((m j : ℕ) → m ≤ rest m j .count)
-    → instr-walk h f start 0 0 rest .count ≡ 0 → missed (instr-walk h f start 0 0 rest .stop) ≡ is-missing f
+instr-why : (d : Dialect) (h : Host) (f : Option ℕ) (start : ℕ) (rest : ℕ → ℕ → Walk) → ((m j : ℕ) → m ≤ rest m j .count)
+    → instr-walk d h f start 0 0 rest .count ≡ 0 → missed (instr-walk d h f start 0 0 rest .stop) ≡ is-missing f
 unfolding instr-walk is-missing missed
-instr-why h none start rest up q = refl
-instr-why h (some instr) start rest up q = step-why _ _ _ (size-of instr) start rest up q
+instr-why d h none start rest up q = refl
+instr-why d h (some instr) start rest up q = step-why _ _ _ (size-of instr) start rest up q
 
-walk-why : (h : Host) (guest : List ℕ) (pc n : ℕ) → walk h guest pc (suc n) 0 0 .count ≡ 0 → missed (walk h guest pc (suc n) 0 0 .stop) ≡ is-missing (fetch (add pc 0) guest 0)
+walk-why : (d : Dialect) (h : Host) (guest : List ℕ) (pc n : ℕ) → walk d h guest pc (suc n) 0 0 .count ≡ 0 → missed (walk d h guest pc (suc n) 0 0 .stop) ≡ is-missing (fetch (add pc 0) guest 0)
 unfolding walk
-walk-why h guest pc n q = instr-why h _ pc (walk h guest pc n) (walk-count h guest pc n) q
+walk-why d h guest pc n q = instr-why d h _ pc (walk d h guest pc n) (walk-count d h guest pc n) q
 
-pub whole-why : (most : ℕ) (h : Host) (guest : List ℕ) (pc limit : ℕ) → pc < 2 ^ 64 → (limit ≡ 0 → ⊥) → whole-walk (suc most) h guest pc limit .count ≡ 0
-    → missed (whole-walk (suc most) h guest pc limit .stop) ≡ is-missing (fetch pc guest 0)
+pub whole-why : (d : Dialect) (most : ℕ) (h : Host) (guest : List ℕ) (pc limit : ℕ) → pc < 2 ^ 64 → (limit ≡ 0 → ⊥) → whole-walk d (suc most) h guest pc limit .count ≡ 0
+    → missed (whole-walk d (suc most) h guest pc limit .stop) ≡ is-missing (fetch pc guest 0)
 unfolding whole-walk
-whole-why most h guest pc zero l z q = absurd (z refl)
-whole-why most h guest pc (suc n) l z q =
+whole-why d most h guest pc zero l z q = absurd (z refl)
+whole-why d most h guest pc (suc n) l z q =
     let e : min (suc n) (suc most) ≡ suc (min n most) = omega arith in
     let p : add pc 0 ≡ pc = omega arith in
-    rw e (walk-why h guest pc (min n most) (rw e at q)) ∙ ap (λ (x : ℕ). is-missing (fetch x guest 0)) p
+    rw e (walk-why d h guest pc (min n most) (rw e at q)) ∙ ap (λ (x : ℕ). is-missing (fetch x guest 0)) p
 
 -- what is said of the first instruction
-abbrev pub first : Host → List ℕ → ℕ → Bool
-first h guest pc = is-missing (fetch pc guest 0) || is-uncovered h pc (fetch pc guest 0)
+abbrev pub first : Dialect → Host → List ℕ → ℕ → Bool
+first d h guest pc = is-missing (fetch pc guest 0) || is-uncovered d h pc (fetch pc guest 0)
 
-counted : (h : Host) (guest : List ℕ) (pc n : ℕ) → eqb (walk h guest pc (suc n) 0 0 .count) 0 ≡ first h guest (add pc 0)
+counted : (d : Dialect) (h : Host) (guest : List ℕ) (pc n : ℕ) → eqb (walk d h guest pc (suc n) 0 0 .count) 0 ≡ first d h guest (add pc 0)
 unfolding walk
-counted h guest pc n = instr-first h _ pc (walk h guest pc n) (walk-count h guest pc n)
+counted d h guest pc n = instr-first d h _ pc (walk d h guest pc n) (walk-count d h guest pc n)
 
-none-counted : (h : Host) (guest : List ℕ) (pc : ℕ) → eqb ((walk h guest pc 0 0 0) .count) 0 ≡ true
+none-counted : (d : Dialect) (h : Host) (guest : List ℕ) (pc : ℕ) → eqb ((walk d h guest pc 0 0 0) .count) 0 ≡ true
 unfolding walk
-none-counted h guest pc = refl
+none-counted d h guest pc = refl
 
 -- the limit is 0, or the first instruction is refused
-by-first : (most : ℕ) (h : Host) (guest : List ℕ) (pc limit : ℕ)
-    → eqb (whole-walk (suc most) h guest pc limit .count) 0 ≡ (eqb limit 0 || first h guest (add pc 0))
+by-first : (d : Dialect) (most : ℕ) (h : Host) (guest : List ℕ) (pc limit : ℕ)
+    → eqb (whole-walk d (suc most) h guest pc limit .count) 0 ≡ (eqb limit 0 || first d h guest (add pc 0))
 unfolding whole-walk
-by-first most h guest pc zero =
+by-first d most h guest pc zero =
     let e : min 0 (suc most) ≡ 0 = omega arith in
-    rw e (none-counted h guest pc)
-by-first most h guest pc (suc n) =
+    rw e (none-counted d h guest pc)
+by-first d most h guest pc (suc n) =
     let e : min (suc n) (suc most) ≡ suc (min n most) = omega arith in
     let z : eqb (suc n) 0 ≡ false = ne-eqb (suc n) 0 (λ q. omega arith) in
-    rw (e, z) (counted h guest pc (min n most))
+    rw (e, z) (counted d h guest pc (min n most))
 
 -- an odd PC is not fetched
 odd-missing : (pc : ℕ) (guest : List ℕ) → eqb (pc % 2) 1 ≡ true → is-missing (fetch pc guest 0) ≡ true
@@ -125,19 +125,19 @@ odd-missing pc guest t =
 
 -- the limit is 0 (refusal 2), the PC is odd (3), the first instruction lacks a halfword (4), or it is neither inline
 -- nor a helper's (5)
-abbrev pub refuses : Host → List ℕ → ℕ → ℕ → Bool
-refuses h guest pc limit = eqb limit 0 || (eqb (pc % 2) 1 || first h guest pc)
+abbrev pub refuses : Dialect → Host → List ℕ → ℕ → ℕ → Bool
+refuses d h guest pc limit = eqb limit 0 || (eqb (pc % 2) 1 || first d h guest pc)
 
-none-emitted : (most : ℕ) (h : Host) (guest : List ℕ) (pc limit : ℕ) → pc < 2 ^ 64
-    → eqb (whole-walk (suc most) h guest pc limit .count) 0 ≡ refuses h guest pc limit
-none-emitted most h guest pc limit l =
+none-emitted : (d : Dialect) (most : ℕ) (h : Host) (guest : List ℕ) (pc limit : ℕ) → pc < 2 ^ 64
+    → eqb (whole-walk d (suc most) h guest pc limit .count) 0 ≡ refuses d h guest pc limit
+none-emitted d most h guest pc limit l =
     let e : add pc 0 ≡ pc = omega arith in
-    let o : first h guest pc ≡ (eqb (pc % 2) 1 || first h guest pc) = by (eqb (pc % 2) 1) (λ t. rw (t, odd-missing pc guest t)) (λ t. rw t) in
-    by-first most h guest pc limit ∙ ap (λ (b : Bool). eqb limit 0 || b) (ap (first h guest) e ∙ o)
+    let o : first d h guest pc ≡ (eqb (pc % 2) 1 || first d h guest pc) = by (eqb (pc % 2) 1) (λ t. rw (t, odd-missing pc guest t)) (λ t. rw t) in
+    by-first d most h guest pc limit ∙ ap (λ (b : Bool). eqb limit 0 || b) (ap (first d h guest) e ∙ o)
 
 -- no block exactly where one of them applies
 pub no-block-is : (d : Dialect) (most : ℕ) (h : Host) (guest : List ℕ) (pc limit : ℕ) → pc < 2 ^ 64
     → compile-native-block d (suc most) h guest pc limit
-    ≡ cond (refuses h guest pc limit) none (some (block-of d h (whole-walk (suc most) h guest pc limit)))
+    ≡ cond (refuses d h guest pc limit) none (some (block-of d h (whole-walk d (suc most) h guest pc limit)))
 unfolding compile-native-block
-no-block-is d most h guest pc limit l = rw (none-emitted most h guest pc limit l)
+no-block-is d most h guest pc limit l = rw (none-emitted d most h guest pc limit l)

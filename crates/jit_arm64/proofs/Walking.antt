@@ -13,7 +13,7 @@ use Rattle.emit_native.specs.declared.EmitFlow.{EmitFlow}
 use Rattle.emit_native.specs.declared.EmitFlow.the-variants.{Continue, Terminate, None}
 use Rattle.emit_native.specs.declared.Emitted.{Emitted}
 use Rattle.emit_native.specs.declared.Host.{Host}
-use Rattle.emit_native.specs.Calls.{Call, words-in, words, Emission}
+use Rattle.emit_native.specs.Calls.{Call, product, words-in, words, Emission}
 use Rattle.emit_native.proofs.Size.{by}
 use Rattle.fetch_window.specs.Parts.{index}
 use Rattle.fetch_window.proofs.Reading.{index-add}
@@ -21,10 +21,10 @@ use Rattle.jit_arm64.specs.declared.fetch.Fetched.{Fetched}
 use Rattle.jit_arm64.specs.declared.block.Stop.{Stop}
 use Rattle.jit_arm64.specs.declared.block.Stop.the-variants.{Limit, Ended, Helper, Uncovered, NotFetched}
 use Rattle.jit_arm64.specs.declared.block.Walked.{Walked}
-use Rattle.jit_arm64.specs.Block.{is-32, size-of, emit-native, emit-term-helper, fetch, walked, in-front, helped, step, instr-walk, walk, whole-walk}
+use Rattle.jit_arm64.specs.Block.{is-32, size-of, emit-inline, emit-term-helper, fetch, walked, in-front, helped, step, instr-walk, walk, whole-walk}
 use Rattle.jit_arm64.specs.Fence.{is-fence-i, fence-or, to-fence, fence}
 use Rattle.jit_arm64.specs.Parts.{FetchedOf, Compiled, fence-walk, is-fenced, end-room, helped-count, helped-stop, Walking, Walks, Onward}
-use Rattle.jit_arm64.proofs.Emitting.{Appended, put, words-append, words-size, Apart, native-size, native-apart, helped-size, uncovered-size}
+use Rattle.jit_arm64.proofs.Emitting.{Appended, put, words-append, words-size, Apart, inline-size, inline-apart, helped-size, uncovered-size}
 use Rattle.jit_arm64.proofs.Fetching.{is-none, is-some}
 use Rattle.jit_arm64.proofs.Refusals.{walk-count}
 use Rattle.jit_arm64.proofs.Fences.{fence-goes-on, unfenced, fenced}
@@ -51,7 +51,7 @@ not-helped Terminate cs n pc other = absurd (other refl)
 
 -- a walk that ended, and one for which there was no room
 done : {h : Host} {guest : List ℕ} {start limit m k : ℕ} {l : List ℕ} {r : Walked} → length l ≡ m → k ≤ r .n → r .full ≡ false
-    → Walks (h .«slot_offset») start (fence-walk max-instrs h guest start limit) (fence max-instrs h guest start limit) l r → Onward h guest start limit m k l r
+    → Walks (h .«slot_offset») start (fence-walk product max-instrs h guest start limit) (fence product max-instrs h guest start limit) l r → Onward h guest start limit m k l r
 done long more e w = record { long = long; more = more; whole = λ _. w; part = λ f. absurd (true≢false (sym f ∙ e)); never = λ _. e }
 
 module _ {h : Host} {guest : List ℕ} {start limit m k₀ : ℕ} {l : List ℕ} {len i n : ℕ} (small : limit ≤ max-instrs)
@@ -60,7 +60,7 @@ module _ {h : Host} {guest : List ℕ} {start limit m k₀ : ℕ} {l : List ℕ}
   Done l′ len′ i′ n′ why b = Onward h guest start limit m k₀ l′ (record { len = len′; i = i′; n = n′; stop = why; fence = b; full = false })
 
   -- k instructions are left
-  whole : (k : ℕ) → limit ≡ n + k → walk h guest start (n + k) 0 0 ≡ whole-walk max-instrs h guest start limit
+  whole : (k : ℕ) → limit ≡ n + k → walk product h guest start (n + k) 0 0 ≡ whole-walk product max-instrs h guest start limit
   unfolding whole-walk
   whole k e =
       let m : min limit max-instrs ≡ n + k = omega arith in
@@ -68,11 +68,11 @@ module _ {h : Host} {guest : List ℕ} {start limit m k₀ : ℕ} {l : List ℕ}
 
   -- the walk ends with the calls cs; no FENCE.I is among its instructions
   ended : (cs : List Call) {l′ : List ℕ} {len′ : ℕ} (i′ n′ : ℕ) (why : Stop)
-      → in-front (v .calls) (walked cs n′ why (add start i′)) ≡ whole-walk max-instrs h guest start limit → to-fence guest start n′ 0 0 ≡ none
+      → in-front (v .calls) (walked cs n′ why (add start i′)) ≡ whole-walk product max-instrs h guest start limit → to-fence guest start n′ 0 0 ≡ none
       → take len′ l′ ≡ words (h .«slot_offset») (v .calls ++ cs) → n ≤ n′ → n′ ≤ max-instrs → length l′ ≡ length l → len′ + end-room why ≤ length l → Done l′ len′ i′ n′ why false
   unfolding is-fenced
   ended cs {l′} i′ n′ why e clear holds up few same room =
-      let u = unfenced h guest start limit (sym e) clear in
+      let u = unfenced product h guest start limit (sym e) clear in
       done (same ∙ long) (omega arith) refl
       (rw (u .0, u .1) (record { holds = holds; count = refl; stop = refl; pc = refl; fence = refl; few = few; room = rw same room }))
 
@@ -115,7 +115,7 @@ module _ {h : Host} {guest : List ℕ} {start limit m k₀ : ℕ} {l : List ℕ}
     left : limit ≡ n + suc (limit - suc n)
     left = let u = v .upto in omega arith
 
-    one : (k : ℕ) → in-front (v .calls) (instr-walk h (fetch pc guest (index start pc)) start n i (walk h guest start k)) ≡ walk h guest start (n + suc k) 0 0
+    one : (k : ℕ) → in-front (v .calls) (instr-walk product h (fetch pc guest (index start pc)) start n i (walk product h guest start k)) ≡ walk product h guest start (n + suc k) 0 0
     unfolding walk
     one k = rw (here, at) (v .same (suc k))
 
@@ -128,7 +128,7 @@ module _ {h : Host} {guest : List ℕ} {start limit m k₀ : ℕ} {l : List ℕ}
     -- an instruction
     module _ (some-bytes : r .size ≡ 0 → ⊥) where
       abbrev e : Emission
-      e = emit-native h pc (r .instr)
+      e = emit-inline product h pc (r .instr)
 
       abbrev helper : Emission
       helper = emit-term-helper h pc (r .instr) n
@@ -140,13 +140,13 @@ module _ {h : Host} {guest : List ℕ} {start limit m k₀ : ℕ} {l : List ℕ}
       size-4 = by (is-32 (r .instr)) (λ t. rw (size-is, t) (omega arith)) (λ t. rw (size-is, t) (omega arith))
 
       stepped : (f : EmitFlow) → e .flow ≡ f → (k : ℕ)
-          → in-front (v .calls) (step f e helper (r .size) start n i (walk h guest start k)) ≡ walk h guest start (n + suc k) 0 0
+          → in-front (v .calls) (step f e helper (r .size) start n i (walk product h guest start k)) ≡ walk product h guest start (n + suc k) 0 0
       unfolding instr-walk
       stepped f t k = rw (← t, size-is, at) (rw (is-some _ r (found .found) some-bytes .0) at (one k))
 
       -- the same at the limit
       ends : (f : EmitFlow) → e .flow ≡ f
-          → in-front (v .calls) (step f e helper (r .size) start n i (walk h guest start (limit - suc n))) ≡ whole-walk max-instrs h guest start limit
+          → in-front (v .calls) (step f e helper (r .size) start n i (walk product h guest start (limit - suc n))) ≡ whole-walk product max-instrs h guest start limit
       ends f t = stepped f t (limit - suc n) ∙ whole _ left
 
       -- the search for FENCE.I at this instruction
@@ -160,11 +160,11 @@ module _ {h : Host} {guest : List ℕ} {start limit m k₀ : ℕ} {l : List ℕ}
       next = omega arith
 
       -- FENCE.I is the Rust's instruction of that number
-      found-at : e .flow ≡ Continue → is-fence-i (r .instr) ≡ true → fence max-instrs h guest start limit ≡ some (suc n)
+      found-at : e .flow ≡ Continue → is-fence-i (r .instr) ≡ true → fence product max-instrs h guest start limit ≡ some (suc n)
       unfolding fence step
       found-at f q′ =
-          let w = walk h guest start (limit - suc n) (suc n) (i + r .size) in
-          let c : w .count ≡ n + suc (w .count - suc n) = omega (arith, walk-count h guest start (limit - suc n) (suc n) (i + r .size)) in
+          let w = walk product h guest start (limit - suc n) (suc n) (i + r .size) in
+          let c : w .count ≡ n + suc (w .count - suc n) = omega (arith, walk-count product h guest start (limit - suc n) (suc n) (i + r .size)) in
           rw (← ends Continue f) (ap (λ (m : ℕ). to-fence guest start m 0 0) c ∙ sym (searched (w .count - suc n)) ∙ rw q′ refl)
 
       -- an instruction after which the Rust does not go on is no FENCE.I
@@ -172,7 +172,7 @@ module _ {h : Host} {guest : List ℕ} {start limit m k₀ : ℕ} {l : List ℕ}
       unfolding to-fence
       none-here other =
           by (is-fence-i (r .instr))
-          (λ y. absurd (other (ap (λ (x : Emission). x .flow) (fence-goes-on h pc (r .instr) y))))
+          (λ y. absurd (other (ap (λ (x : Emission). x .flow) (fence-goes-on product h pc (r .instr) y))))
           (λ y. rw y at (sym (searched 0)))
 
       -- its words cs, appended
@@ -186,7 +186,7 @@ module _ {h : Host} {guest : List ℕ} {start limit m k₀ : ℕ} {l : List ℕ}
       -- inline words
       module _ {out : Emitted} {part : List ℕ} (c : Compiled (h .«slot_offset») (e .calls) (e .flow) out part) {l′ : List ℕ} {len′ : ℕ} (added : Added (length l) l len l′ len′ (held (out .em) part)) where
         few : length (words (h .«slot_offset») (e .calls)) ≤ inline-words
-        few = omega (arith, words-size (h .«slot_offset») (e .calls), native-size (h .«slot_offset») h pc (r .instr))
+        few = omega (arith, words-size (h .«slot_offset») (e .calls), inline-size (h .«slot_offset») h pc (r .instr))
 
         pub on : out .flow ≡ Continue → is-fence-i (r .instr) ≡ false → Walking h guest start limit l′ len′ (i + r .size) (n + 1)
         unfolding step
@@ -235,7 +235,7 @@ module _ {h : Host} {guest : List ℕ} {start limit m k₀ : ℕ} {l : List ℕ}
             let f : e .flow ≡ Continue = sym (c .flow) ∙ t in
             let g = found-at f q′ in
             let one-more : suc n ≡ n + suc 0 = omega arith in
-            let x = fenced h guest start limit (omega arith) g (ap (λ (j : ℕ). walk h guest start j 0 0) one-more ∙ sym (stepped Continue f 0)) in
+            let x = fenced product h guest start limit (omega arith) g (ap (λ (j : ℕ). walk product h guest start j 0 0) one-more ∙ sym (stepped Continue f 0)) in
             done (a .long ∙ long) (omega arith) refl
             (rw (x, g)
             (record { holds = with (e .calls) (c .holds) added (omega arith) ∙ rw (append-nil (e .calls)) refl; count = next; stop = refl; pc = refl; fence = refl; few = omega arith; room = let z = a .long in omega arith }))
@@ -250,7 +250,7 @@ module _ {h : Host} {guest : List ℕ} {start limit m k₀ : ℕ} {l : List ℕ}
         not-inline = sym (i₀ .flow) ∙ none
 
         apart : Apart (h .«slot_offset») e helper
-        apart = let u = v .upto in native-apart (h .«slot_offset») h pc (r .instr) n (omega arith)
+        apart = let u = v .upto in inline-apart (h .«slot_offset») h pc (r .instr) n (omega arith)
 
         by-helper : out .flow ≡ Terminate → Done l′ len′ i (n + 1) Helper false
         unfolding step helped end-room
@@ -258,7 +258,7 @@ module _ {h : Host} {guest : List ℕ} {start limit m k₀ : ℕ} {l : List ℕ}
             let k = v .upto in
             let m = v .room in
             let w : length (words (h .«slot_offset») both) ≤ instr-words =
-            omega (arith, words-size (h .«slot_offset») both, helped-size (h .«slot_offset») e helper (native-size (h .«slot_offset») h pc (r .instr)) apart) in
+            omega (arith, words-size (h .«slot_offset») both, helped-size (h .«slot_offset») e helper (inline-size (h .«slot_offset») h pc (r .instr)) apart) in
             let a = appended both (c .holds) added w in
             let p = a .len in
             ended both i (n + 1) Helper (rw next (rw (sym (c .flow) ∙ t) at (ends None not-inline))) (none-here (λ z. let q : e .flow ≡ None = not-inline in let y : _≡_ {A = ℕ} 0 1 = cc in omega arith)) (with both (c .holds) added w) (omega arith) (omega arith) (a .long) (omega arith)
@@ -270,7 +270,7 @@ module _ {h : Host} {guest : List ℕ} {start limit m k₀ : ℕ} {l : List ℕ}
             let m = v .room in
             let other : helper .flow ≡ Terminate → ⊥ = λ u. t (c .flow ∙ u) in
             let w : length (words (h .«slot_offset») both) ≤ inline-words =
-            omega (arith, words-size (h .«slot_offset») both, uncovered-size (h .«slot_offset») e helper (native-size (h .«slot_offset») h pc (r .instr)) apart other) in
+            omega (arith, words-size (h .«slot_offset») both, uncovered-size (h .«slot_offset») e helper (inline-size (h .«slot_offset») h pc (r .instr)) apart other) in
             let a = appended both (c .holds) added (omega arith) in
             let p = a .len in
             ended both i n Uncovered (rw (not-helped (helper .flow) both n (add start i) other) at (ends None not-inline)) none-yet (with both (c .holds) added (omega arith))

@@ -14,11 +14,14 @@ use Rattle.jit_arm64.specs.declared.block.Stop.{Stop}
 use Rattle.jit_arm64.specs.declared.block.Stop.the-variants.{Limit, Ended, Helper, Uncovered, NotFetched}
 use Rattle.a64_emitter.specs.Writers.{ret}
 use Rattle.a64_emitter.specs.Emitter.{bytes}
-use Rattle.emit_native.specs.Calls.{Call, Dialect, emit, mov-imm64, words-in, Emission}
+use Rattle.emit_native.specs.Calls.{Call, Dialect, rust, product, emit, mov-imm64, words-in, Emission}
+use Rattle.isa.specs.declared.zbb.Found.{Found}
 use Rattle.isa.specs.Decode.{decode32}
+use Rattle.isa.specs.Zbb.{find}
 use Rattle.instr16.specs.Instr16.{emit-native-instr16}
 use Rattle.instr32.specs.Instr32.{emit-native-instr}
 use Rattle.term_helper.specs.TermHelper.{emit-native-term-helper16, emit-native-term-helper32}
+use Rattle.zbb.specs.Emission.{emission}
 
 -- ---- fetching: the guest bytes hold the halfword at index i where two bytes are left there; i is the PC less the start PC
 
@@ -52,13 +55,28 @@ is-missing (some instr) = false
 abbrev pub size-of : ℕ → ℕ
 size-of instr = cond (is-32 instr) 4 2
 
--- the inline emitter for its width, and the helper's
+-- the Rust's inline emitter for its width, and the helper's
 unfoldable pub emit-native : Host → ℕ → ℕ → Emission
 emit-native h pc instr = cond (is-32 instr) (emit-native-instr pc instr (decode32 instr)) (emit-native-instr16 (h .«ignore_ebreak») pc instr)
 
 unfoldable pub emit-term-helper : Host → ℕ → ℕ → ℕ → Emission
 emit-term-helper h pc instr emitted =
     cond (is-32 instr) (emit-native-term-helper32 h pc instr (decode32 instr) emitted) (emit-native-term-helper16 h pc instr emitted)
+
+-- the Zbb instruction that it is, of 32 bits
+unfoldable pub zbb-of : ℕ → Found
+zbb-of instr = cond (is-32 instr) (find instr) Found.Nothing
+
+unfoldable pub zbb-first : Found → ℕ → Emission → Emission
+zbb-first Found.Nothing instr e = e
+zbb-first (Found.Register z) instr e = emission (Found.Register z) instr
+zbb-first (Found.Number z n) instr e = emission (Found.Number z n) instr
+zbb-first (Found.Unary z) instr e = emission (Found.Unary z) instr
+
+-- the product takes Zbb first, and the Rust's emitters after it (document 02, No. 7)
+unfoldable pub emit-inline : Dialect → Host → ℕ → ℕ → Emission
+emit-inline rust h pc instr = emit-native h pc instr
+emit-inline product h pc instr = zbb-first (zbb-of instr) instr (emit-native h pc instr)
 
 -- ---- the loop
 
@@ -88,17 +106,17 @@ step Continue e helper n start emitted i rest = in-front (e .calls) (rest (suc e
 step Terminate e helper n start emitted i rest = walked (e .calls) (suc emitted) Ended (add start (i + n))
 step None e helper n start emitted i rest = helped (helper .flow) (e .calls ++ helper .calls) emitted (add start i)
 
--- the instruction that was fetched, or none
-unfoldable pub instr-walk : Host → Option ℕ → ℕ → ℕ → ℕ → (ℕ → ℕ → Walk) → Walk
-instr-walk h none start emitted i rest = walked [] emitted NotFetched (add start i)
-instr-walk h (some instr) start emitted i rest =
-    let e = emit-native h (add start i) instr in
+-- the instruction that was fetched, or none. d: whose inline emitter
+unfoldable pub instr-walk : Dialect → Host → Option ℕ → ℕ → ℕ → ℕ → (ℕ → ℕ → Walk) → Walk
+instr-walk d h none start emitted i rest = walked [] emitted NotFetched (add start i)
+instr-walk d h (some instr) start emitted i rest =
+    let e = emit-inline d h (add start i) instr in
     step (e .flow) e (emit-term-helper h (add start i) instr emitted) (size-of instr) start emitted i rest
 
 -- left: how many instructions the limit leaves
-unfoldable pub walk : Host → List ℕ → ℕ → ℕ → ℕ → ℕ → Walk
-walk h guest start zero emitted i = walked [] emitted Limit (add start i)
-walk h guest start (suc left) emitted i = instr-walk h (fetch (add start i) guest i) start emitted i (walk h guest start left)
+unfoldable pub walk : Dialect → Host → List ℕ → ℕ → ℕ → ℕ → ℕ → Walk
+walk d h guest start zero emitted i = walked [] emitted Limit (add start i)
+walk d h guest start (suc left) emitted i = instr-walk d h (fetch (add start i) guest i) start emitted i (walk d h guest start left)
 
 -- ---- the block
 
@@ -121,8 +139,8 @@ abbrev pub block-calls : Walk → List Call
 block-calls w = w .calls ++ end-calls (w .stop) (w .pc) (w .count)
 
 -- most: how many instructions a block may have. The Rust's is 64, `max_steps.min(64)`
-unfoldable pub whole-walk : ℕ → Host → List ℕ → ℕ → ℕ → Walk
-whole-walk most h guest pc limit = walk h guest pc (min limit most) 0 0
+unfoldable pub whole-walk : Dialect → ℕ → Host → List ℕ → ℕ → ℕ → Walk
+whole-walk d most h guest pc limit = walk d h guest pc (min limit most) 0 0
 
 -- the code, its count of instructions, and why the loop stopped
 pub record Block : Type 0 where
@@ -137,5 +155,5 @@ block-of d h w = record { code = bytes (words-in d (h .«slot_offset») (block-c
 -- no block where nothing was emitted
 unfoldable pub compile-native-block : Dialect → ℕ → Host → List ℕ → ℕ → ℕ → Option Block
 compile-native-block d most h guest pc limit =
-    let w = whole-walk most h guest pc limit in
+    let w = whole-walk d most h guest pc limit in
     cond (eqb (w .count) 0) none (some (block-of d h w))

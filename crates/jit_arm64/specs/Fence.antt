@@ -7,6 +7,7 @@ use lib.Dec.{eqb}
 use Rattle.word.specs.Word.{add}
 use Rattle.isa.specs.Formats.{opcode, funct3}
 use Rattle.emit_native.specs.declared.Host.{Host}
+use Rattle.emit_native.specs.Calls.{Dialect}
 use Rattle.jit_arm64.specs.Block.{fetch, size-of, whole-walk}
 
 -- MISC-MEM with funct3 1, whatever its other fields (the ISA, 'Zifencei')
@@ -24,9 +25,9 @@ to-fence guest start zero before i = none
 to-fence guest start (suc left) before i =
     fence-or (fetch (add start i) guest i) before (λ (size : ℕ). to-fence guest start left (suc before) (i + size))
 
--- from pc on, among as many instructions as the Rust's walk counts with this limit: what follows its end is not asked
-unfoldable pub fence : ℕ → Host → List ℕ → ℕ → ℕ → Option ℕ
-fence most h guest pc limit = to-fence guest pc (whole-walk most h guest pc limit .count) 0 0
+-- from pc on, among as many instructions as the walk counts with this limit: what follows its end is not asked
+unfoldable pub fence : Dialect → ℕ → Host → List ℕ → ℕ → ℕ → Option ℕ
+fence d most h guest pc limit = to-fence guest pc (whole-walk d most h guest pc limit .count) 0 0
 
 -- the limit of a block with this FENCE.I, or with none
 unfoldable pub limit-at : Option ℕ → ℕ → ℕ

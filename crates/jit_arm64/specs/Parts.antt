@@ -13,14 +13,14 @@ use Rattle.emit_native.specs.declared.Host.{Host}
 use Rattle.emit_native.specs.declared.EmitFlow.{EmitFlow}
 use Rattle.emit_native.specs.declared.EmitFlow.the-variants.{Continue, Terminate, None}
 use Rattle.emit_native.specs.declared.Emitted.{Emitted}
-use Rattle.emit_native.specs.Calls.{Call, words}
+use Rattle.emit_native.specs.Calls.{Call, Dialect, product, words}
 use Rattle.jit_arm64.specs.declared.fetch.Fetched.{Fetched}
 use Rattle.jit_arm64.specs.declared.block.Stop.{Stop}
 use Rattle.jit_arm64.specs.declared.block.Stop.the-variants.{Limit, Ended, Helper, Uncovered, NotFetched}
 use Rattle.jit_arm64.specs.declared.block.Walked.{Walked}
 use Rattle.jit_arm64.specs.declared.block.ShortBlock.{ShortBlock}
 use Rattle.jit_arm64.specs.declared.block.NativeBlock.{NativeBlock}
-use Rattle.jit_arm64.specs.Block.{size-of, emit-native, emit-term-helper, Walk, in-front, walk, whole-walk, block-calls}
+use Rattle.jit_arm64.specs.Block.{size-of, emit-inline, emit-term-helper, Walk, in-front, walk, whole-walk, block-calls}
 use Rattle.jit_arm64.specs.Fence.{to-fence, fence, limit-at}
 
 -- what was fetched, and its length in bytes; 0 for both where a halfword is missing
@@ -44,9 +44,9 @@ pub record Compiled (slot-offset : ℕ) (cs : List Call) (f : EmitFlow) (r : Emi
 
 -- ---- the walk and the block
 
--- the Rust's walk with the limit that FENCE.I leaves
-abbrev pub fence-walk : ℕ → Host → List ℕ → ℕ → ℕ → Walk
-fence-walk most h guest pc limit = whole-walk most h guest pc (limit-at (fence most h guest pc limit) limit)
+-- a walk with the limit that FENCE.I leaves
+abbrev pub fence-walk : Dialect → ℕ → Host → List ℕ → ℕ → ℕ → Walk
+fence-walk d most h guest pc limit = whole-walk d most h guest pc (limit-at (fence d most h guest pc limit) limit)
 
 unfoldable pub is-fenced : Option ℕ → Bool
 is-fenced none = false
@@ -105,7 +105,7 @@ pub record Walking (h : Host) (guest : List ℕ) (start limit : ℕ) (l : List �
   pub few : len ≤ inline-words * n
   pub room : len + end-words ≤ length l
   -- at every limit: the walk from here on, and the search for FENCE.I
-  pub same : (k : ℕ) → in-front calls (walk h guest start k n i) ≡ walk h guest start (n + k) 0 0
+  pub same : (k : ℕ) → in-front calls (walk product h guest start k n i) ≡ walk product h guest start (n + k) 0 0
   pub clear : (k : ℕ) → to-fence guest start k n i ≡ to-fence guest start (n + k) 0 0
 
 -- the walk stopped with so many words of l because there was no room for one more instruction and the end
@@ -127,16 +127,16 @@ pub record Walks (slot-offset start : ℕ) (w : Walk) (f : Option ℕ) (l : List
 pub record Onward (h : Host) (guest : List ℕ) (start limit m k : ℕ) (l : List ℕ) (r : Walked) : Type 0 where
   pub long : length l ≡ m
   pub more : k ≤ r .n
-  pub whole : r .full ≡ false → Walks (h .«slot_offset») start (fence-walk max-instrs h guest start limit) (fence max-instrs h guest start limit) l r
+  pub whole : r .full ≡ false → Walks (h .«slot_offset») start (fence-walk product max-instrs h guest start limit) (fence product max-instrs h guest start limit) l r
   pub part : r .full ≡ true → Partly h guest start limit l r
   pub never : max-words ≤ m → r .full ≡ false
 
 -- the block's words ws
 pub record BlockOf (h : Host) (guest : List ℕ) (start limit : ℕ) (ws : List ℕ) (r : Walked) : Type 0 where
-  pub holds : ws ≡ words (h .«slot_offset») (block-calls (fence-walk max-instrs h guest start limit))
-  pub count : r .n ≡ fence-walk max-instrs h guest start limit .count
-  pub stop : r .stop ≡ fence-walk max-instrs h guest start limit .stop
-  pub fence : r .fence ≡ is-fenced (fence max-instrs h guest start limit)
+  pub holds : ws ≡ words (h .«slot_offset») (block-calls (fence-walk product max-instrs h guest start limit))
+  pub count : r .n ≡ fence-walk product max-instrs h guest start limit .count
+  pub stop : r .stop ≡ fence-walk product max-instrs h guest start limit .stop
+  pub fence : r .fence ≡ is-fenced (fence product max-instrs h guest start limit)
 
 -- in the short emitter, or as far as there is room in it
 pub record ShortOf (h : Host) (guest : List ℕ) (start limit : ℕ) (r : ShortBlock) : Type 0 where
@@ -158,9 +158,9 @@ neither None Terminate = false
 neither None Continue = true
 neither None None = true
 
-unfoldable pub is-uncovered : Host → ℕ → Option ℕ → Bool
-is-uncovered h pc none = false
-is-uncovered h pc (some instr) = neither ((emit-native h pc instr) .flow) ((emit-term-helper h pc instr 0) .flow)
+unfoldable pub is-uncovered : Dialect → Host → ℕ → Option ℕ → Bool
+is-uncovered d h pc none = false
+is-uncovered d h pc (some instr) = neither ((emit-inline d h pc instr) .flow) ((emit-term-helper h pc instr 0) .flow)
 
 -- a walk that counted nothing stopped because the first instruction lacks a halfword
 unfoldable pub missed : Stop → Bool

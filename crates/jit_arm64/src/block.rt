@@ -6,8 +6,11 @@ ghost use mathlib.Core.Bool.{true, false};
 ghost use lib.ListN.{length};
 ghost use Rattle.rules.specs.Limits.{inline-words, end-words, max-instrs, short-words, max-words, max-slot-offset};
 ghost use Rattle.a64_emitter.specs.Parts.{held, short-block-words, block-words, InstrArray, Copied};
+ghost use Rattle.isa.specs.declared.zbb.Found.{Found};
+ghost use Rattle.isa.specs.Zbb.{find};
 ghost use Rattle.emit_native.specs.Calls as Calls;
-ghost use Rattle.jit_arm64.specs.Block.{emit-native, emit-term-helper};
+ghost use Rattle.emit_native.specs.Calls.{product};
+ghost use Rattle.jit_arm64.specs.Block.{emit-inline, emit-term-helper};
 ghost use Rattle.jit_arm64.specs.Fence.{is-fence-i};
 ghost use Rattle.jit_arm64.specs.Parts.{Narrow, Compiled, Walking, Onward, Partly, ShortOf, LongOf, sets-next, has-return, helped-count, helped-stop, is-full};
 use crate::fetch::fetch;
@@ -55,17 +58,64 @@ pub struct NativeBlock {
     pub done: Walked,
 }
 
-// The inline words of an instruction, by its width, at the front of `words`.
+// Whether the opcode is one of Zbb's: OP, OP-IMM, OP-32, OP-IMM-32.
+fn may_be_zbb(instr: u32) -> bool
+    ensures { λ r. ⌜ (r ≡ false → find instr ≡ Found.Nothing) ⌝ }
+{
+    let opcode = instr % 128;
+    opcode == isa::OPCODE_OP
+        || opcode == isa::OPCODE_OP_IMM
+        || opcode == isa::OPCODE_OP_32
+        || opcode == isa::OPCODE_OP_IMM_32
+}
+
+// The inline words of an instruction of 32 bits: Zbb first, and the Rust's emitter after it.
+fn emit_zbb_first(words: &mut [u32; INSTR_WORDS], host: Host, pc: u64, instr: u32) -> Emitted
+    requires { ⌜ (host .«slot_offset» ≤ max-slot-offset) × (instr % 4 ≡ 3) × InstrArray (now words) ⌝ }
+    ensures { λ r. ⌜ Compiled (host .«slot_offset») (emit-inline product host pc instr .calls) (emit-inline product host pc instr .flow) r (now (words .exit)) ⌝ }
+{
+    let out = zbb::emit_native_zbb(InstrEmitter::new(), words, host.slot_offset, instr);
+    let flow = out.flow;
+    if let EmitFlow::None = flow {
+        let d = isa::decode::decode32(instr);
+        return instr32::emit_native_instr(
+            InstrEmitter::new(),
+            words,
+            host.slot_offset,
+            pc,
+            instr,
+            d,
+        );
+    }
+    out
+}
+
+// The inline words of an instruction, by its width, at the front of `words`. The Rust's emitter refuses every Zbb
+// instruction, so that its answer stands where it is another: a block without Zbb does not pay for Zbb.
 fn emit_native(words: &mut [u32; INSTR_WORDS], host: Host, pc: u64, instr: u32) -> Emitted
     requires { ⌜ (host .«slot_offset» ≤ max-slot-offset) × Narrow instr × InstrArray (now words) ⌝ }
-    ensures { λ r. ⌜ Compiled (host .«slot_offset») (emit-native host pc instr .calls) (emit-native host pc instr .flow) r (now (words .exit)) ⌝ }
+    ensures { λ r. ⌜ Compiled (host .«slot_offset») (emit-inline product host pc instr .calls) (emit-inline product host pc instr .flow) r (now (words .exit)) ⌝ }
 {
     if instr % 4 != 3 {
         let low = (instr % 0x1_0000) as u16;
         return instr16::emit_native_instr16(InstrEmitter::new(), words, host, pc, low);
     }
     let d = isa::decode::decode32(instr);
-    instr32::emit_native_instr(InstrEmitter::new(), words, host.slot_offset, pc, instr, d)
+    let out = instr32::emit_native_instr(
+        InstrEmitter::new(),
+        words,
+        host.slot_offset,
+        pc,
+        instr,
+        d,
+    );
+    let flow = out.flow;
+    if let EmitFlow::None = flow {
+        if may_be_zbb(instr) {
+            return emit_zbb_first(words, host, pc, instr);
+        }
+    }
+    out
 }
 
 // The words of a helper's call, after those that the inline emitter left.
@@ -77,8 +127,8 @@ fn emit_term_helper(
     instr: u32,
     emitted: u32,
 ) -> Emitted
-    requires { ⌜ (host .«slot_offset» ≤ max-slot-offset) × Narrow instr × (emitted ≤ max-instrs) × (held em (now words) ≡ Calls.words (host .«slot_offset») (emit-native host pc instr .calls)) × InstrArray (now words) ⌝ }
-    ensures { λ r. ⌜ Compiled (host .«slot_offset») (emit-native host pc instr .calls ++ emit-term-helper host pc instr emitted .calls) (emit-term-helper host pc instr emitted .flow) r (now (words .exit)) ⌝ }
+    requires { ⌜ (host .«slot_offset» ≤ max-slot-offset) × Narrow instr × (emitted ≤ max-instrs) × (held em (now words) ≡ Calls.words (host .«slot_offset») (emit-inline product host pc instr .calls)) × InstrArray (now words) ⌝ }
+    ensures { λ r. ⌜ Compiled (host .«slot_offset») (emit-inline product host pc instr .calls ++ emit-term-helper host pc instr emitted .calls) (emit-term-helper host pc instr emitted .flow) r (now (words .exit)) ⌝ }
 {
     if instr % 4 != 3 {
         let low = (instr % 0x1_0000) as u16;

@@ -1,4 +1,5 @@
--- Every 32-bit encoding: it is FENCE.I, or the Rust's emission agrees with the ISA's instruction. Assumes nothing.
+-- Every 32-bit encoding: it is FENCE.I, or what is emitted agrees with the ISA's instruction: the Rust's emission with the
+-- base ISA and M, and with Zbb first on both sides. Assumes nothing.
 use mathlib.Core.Path.{_≡_, refl}
 use mathlib.Core.Bool.{Bool, true, false, cond, _&&_, _||_, true≢false}
 use mathlib.Core.List.{List, [], _∷_}
@@ -20,10 +21,13 @@ use Rattle.emit_native.specs.Calls.{Call, mov-imm64, load, Emission, continue, 
 use Rattle.isa.specs.Decode as Rust
 use Rattle.instr32.specs.Instr32 as I32
 use Rattle.jit_arm64.specs.Fence.{is-fence-i}
-use Rattle.jit_arm64.proofs.Fences.{fence-fields}
+use Rattle.isa.specs.Zbb as Z
+use Rattle.jit_arm64.specs.Block.{zbb-first}
+use Rattle.jit_arm64.proofs.Fences.{fence-fields, fence-no-zbb}
 use Rattle.isa.proofs.Decoding.{imm-i-is, imm-b-is, imm-u-is, imm-j-is}
 use Rattle.translation.proofs.Calls.{Model, Kept, calls-run}
 use Rattle.translation.proofs.Alus.{body, slliw, srliw, sraiw, body-law, slliw-law, srliw-law, sraiw-law}
+use Rattle.translation.proofs.Zbbs.{zbb-agrees}
 use Rattle.translation.proofs.Instrs.{Agrees, Fences, Fine, nothing, one, two, with-constant, body-fine, slliw-fine, srliw-fine, sraiw-fine, condition, op-agrees, imm-agrees, lui-agrees, auipc-agrees, jal-agrees, jalr-agrees, branch-agrees, nop-agrees, uncovered-agrees, helper-agrees}
 
 -- what holds at 0 to 7 holds below 8
@@ -190,10 +194,10 @@ opcode-of n =
 -- ---- FENCE.I
 
 pub fences32 : (pc w : ℕ) → is-fence-i w ≡ true → Fences (D.decode32 w) (I32.emit-native-instr pc w (Rust.decode32 w))
-unfolding D.decode32 D.by-class class-of D.misc-mem D.fences I32.emit-native-instr I32.misc-mem
+unfolding D.decode32 D.zbb-or D.base32 D.by-class class-of D.misc-mem D.fences I32.emit-native-instr I32.misc-mem
 fences32 pc w h =
     let q = fence-fields w h in
-    record { instr = rw (q .0, q .1) refl; emission = rw (q .0, q .1) refl }
+    record { instr = rw (fence-no-zbb w h, q .0, q .1) refl; emission = rw (q .0, q .1) refl }
 
 -- ---- the other encodings
 
@@ -380,6 +384,6 @@ module _ (r₀ : ℕ → ℕ) (pc : ℕ) (v : Model) (κ : Kept r₀ true v) (w 
       (any (eqb n 0b0101111) Class.Amo _ (either true)
       (any (eqb n 0b1110011) Class.System Class.Other no-words no-words))))))
 
-  pub agrees32 : Agrees 4 pc v (D.decode32 w) (I32.emit-native-instr pc w (Rust.decode32 w))
-  unfolding D.decode32
-  agrees32 = by-opcode (w % 128) (opcode-of (w % 128)) refl
+  pub agrees32 : Agrees 4 pc v (D.decode32 w) (zbb-first (Z.find w) w (I32.emit-native-instr pc w (Rust.decode32 w)))
+  unfolding D.decode32 D.base32
+  agrees32 = zbb-agrees r₀ pc v κ w _ _ (by-opcode (w % 128) (opcode-of (w % 128)) refl)

@@ -76,7 +76,7 @@ not-leb x y = by (leb y x) refl
     by true q = ap not q ∙ sym (le-ltb x y (leb-true y x q))
     by false q = ap not q ∙ sym (lt-ltb x y (leb-false y x q))
 
-and31 : (y : ℕ) → bitAnd y 31 % 64 ≡ y % 32
+pub and31 : (y : ℕ) → bitAnd y 31 % 64 ≡ y % 32
 and31 y = let e : bitAnd y 31 ≡ y % 32 = and-mask y 5 in rw e (omega arith)
 
 and32 : (x : ℕ) → bitAnd x 4294967295 ≡ x % 2 ^ 32

@@ -27,14 +27,16 @@ use Rattle.rv64_run.specs.Run as Rv64
 use Rattle.emit_native.specs.declared.EmitFlow.{EmitFlow}
 use Rattle.emit_native.specs.declared.Host.{Host}
 use Rattle.jit_arm64.specs.declared.block.Stop.{Stop}
-use Rattle.emit_native.specs.Calls.{Call, mov-imm64, Emission}
+use Rattle.emit_native.specs.Calls.{Call, mov-imm64, product, Emission}
 use Rattle.emit_native.specs.Calls as Calls
 use Rattle.isa.specs.Isa.{OPCODE-SYSTEM, OPCODE-LOAD, OPCODE-STORE, OPCODE-LOAD-FP, OPCODE-STORE-FP, OPCODE-AMO}
 use Rattle.isa.specs.Decode as Rust
+use Rattle.isa.specs.Zbb.{find}
+use Rattle.jit_arm64.proofs.Fences.{fence-no-zbb}
 use Rattle.instr16.specs.Instr16 as I16
 use Rattle.instr32.specs.Instr32 as I32
 use Rattle.term_helper.specs.TermHelper as TH
-use Rattle.jit_arm64.specs.Block.{Walk, walked, in-front, emit-native, emit-term-helper, helped, step, instr-walk, walk, fetch, fetch-upper}
+use Rattle.jit_arm64.specs.Block.{Walk, walked, in-front, emit-native, zbb-of, zbb-first, emit-inline, emit-term-helper, helped, step, instr-walk, walk, fetch, fetch-upper}
 use Rattle.jit_arm64.specs.Fence.{is-fence-i}
 use Rattle.emit_native.proofs.Size.{by}
 use Rattle.translation.proofs.Calls.{Model, call-step, calls-run, scratch, fits, all-fit, all-keep, AllIn, Kept, calls-kept, is-true}
@@ -57,6 +59,8 @@ exec-stays : (i : Instr) (n pc : ℕ) (x : List ℕ) → Stays (exec i n pc x .f
 unfolding exec
 exec-stays (Instr.Op k d a b) n pc x = tt
 exec-stays (Instr.OpImm k d a c) n pc x = tt
+exec-stays (Instr.Zbb k d a b) n pc x = tt
+exec-stays (Instr.ZbbImm k d a c) n pc x = tt
 exec-stays (Instr.Lui d c) n pc x = tt
 exec-stays (Instr.Auipc d c) n pc x = tt
 exec-stays (Instr.Jal d c) n pc x = tt
@@ -183,6 +187,8 @@ exec-helps : (i : Instr) (n pc : ℕ) (x : List ℕ) (t : EmitFlow) → took t �
 unfolding exec sort
 exec-helps (Instr.Op k d a b) n pc x t e = e
 exec-helps (Instr.OpImm k d a c) n pc x t e = e
+exec-helps (Instr.Zbb k d a b) n pc x t e = e
+exec-helps (Instr.ZbbImm k d a c) n pc x t e = e
 exec-helps (Instr.Lui d c) n pc x t e = e
 exec-helps (Instr.Auipc d c) n pc x t e = e
 exec-helps (Instr.Jal d c) n pc x t e = e
@@ -340,16 +346,16 @@ module _ (r₀ : ℕ → ℕ) (start : ℕ) (host : Host) (guest : List ℕ) whe
   instr-walks : (a b c : Bool) (w u : ℕ) → eqb (w % 4) 3 ≡ b → (b ≡ true → eqb (u % 4) 3 ≡ true) → (i n : ℕ) → fetch (add start i) guest i ≡ found a b c w u
       → (v : Model) (left : ℕ → ℕ) (run : ℕ → Hart → Ran)
       → w < 2 ^ 16 → u < 2 ^ 32 → Kept r₀ true v
-      → ((size : ℕ) → size % 2 ≡ 0 → Follows (i + size) (walk host guest start (left size) (suc n) (i + size)) (run size))
-      → Follow (instr-walk host (found a b c w u) start n i (walk host guest start (behind (found a b c w u) left))) v
+      → ((size : ℕ) → size % 2 ≡ 0 → Follows (i + size) (walk product host guest start (left size) (suc n) (i + size)) (run size))
+      → Follow (instr-walk product host (found a b c w u) start n i (walk product host guest start (behind (found a b c w u) left))) v
       (Rv64.step (cond (not a) RF.Fetched.Missing (cond (not b) (RF.Fetched.Found (C.decode16 (host .«ignore_ebreak») w) 2) (cond (not c) RF.Fetched.Missing (RF.Fetched.Found (D.decode32 u) 4)))) (Rv64.hart (v .slots) (add start i)) n run)
-  unfolding instr-walk behind emit-native emit-term-helper Rv64.step next-calls
+  unfolding instr-walk behind emit-inline zbb-of zbb-first emit-native emit-term-helper Rv64.step next-calls
   instr-walks false b c w u qw qu i n fe v left run hw hu κ go = inl (stop-walks [] n (add start i) Stop.NotFetched RS.Stop.NotFetched v refl nothing (omega arith))
   instr-walks true false c w u qw qu i n fe v left run hw hu κ go =
       let j = C.decode16 (host .«ignore_ebreak») w in
       let f = narrow w qw in
       rw (qw, f)
-      (step-walks _ _ (I16.emit-native-instr16 (host .«ignore_ebreak») (add start i) w) (TH.emit-native-term-helper16 host (add start i) w n) 2 i n v (walk host guest start (left 2)) (run 2)
+      (step-walks _ _ (I16.emit-native-instr16 (host .«ignore_ebreak») (add start i) w) (TH.emit-native-term-helper16 host (add start i) w n) 2 i n v (walk product host guest start (left 2)) (run 2)
       (record {
         quiet = quiet16 host (add start i) w n;
         agrees = exec-helps j 2 (add start i) (v .slots) (TH.emit-native-term-helper16 host (add start i) w n .flow) (sorts16 host (add start i) w n (host .«ignore_ebreak») hw);
@@ -361,13 +367,13 @@ module _ (r₀ : ℕ → ℕ) (start : ℕ) (host : Host) (guest : List ℕ) whe
   instr-walks true true true w u qw qu i n fe v left run hw hu κ go =
       let j = D.decode32 u in
       by (is-fence-i u)
-      (λ f. let s = fences32 (add start i) u f in rw (qu refl, f, s .instr, s .emission) (inl (unfold step walk exec Rv64.onward in (fence-walks i n v))))
+      (λ f. let s = fences32 (add start i) u f in rw (qu refl, f, s .instr, fence-no-zbb u f, s .emission) (inl (unfold step walk exec Rv64.onward in (fence-walks i n v))))
       (λ f.
       rw (qu refl, f)
-      (step-walks _ _ (I32.emit-native-instr (add start i) u (Rust.decode32 u)) (TH.emit-native-term-helper32 host (add start i) u (Rust.decode32 u) n) 4 i n v (walk host guest start (left 4)) (run 4)
+      (step-walks _ _ (zbb-first (find u) u (I32.emit-native-instr (add start i) u (Rust.decode32 u))) (TH.emit-native-term-helper32 host (add start i) u (Rust.decode32 u) n) 4 i n v (walk product host guest start (left 4)) (run 4)
       (record {
         quiet = quiet32 host (add start i) u n (Rust.decode32 u);
-        agrees = exec-helps j 4 (add start i) (v .slots) (TH.emit-native-term-helper32 host (add start i) u (Rust.decode32 u) n .flow) (unfold D.decode32 in (rw f at (sorts32 host (add start i) u n)));
+        agrees = exec-helps j 4 (add start i) (v .slots) (TH.emit-native-term-helper32 host (add start i) u (Rust.decode32 u) n .flow) (rw f at (sorts32 host (add start i) u n));
         taken = λ t. record { index = i; instr = u; at = refl; found = fe; is = rw (qu refl) refl; flow = t };
       })
       (agrees32 r₀ (add start i) v κ u hu f)
@@ -381,7 +387,7 @@ module _ (r₀ : ℕ → ℕ) (start : ℕ) (host : Host) (guest : List ℕ) whe
 
   -- the whole walk, up to the first FENCE.I
   pub walk-walks : Bytes guest → start < 2 ^ 64 → (k n i : ℕ) (v : Model) → add start i % 2 ≡ 0 → Kept r₀ true v
-      → Follow (walk host guest start (cut guest start k i) n i) v (Rv64.run (host .«ignore_ebreak») k n (drop i guest) (Rv64.hart (v .slots) (add start i)))
+      → Follow (walk product host guest start (cut guest start k i) n i) v (Rv64.run (host .«ignore_ebreak») k n (drop i guest) (Rv64.hart (v .slots) (add start i)))
   unfolding walk cut Rv64.run Rv64.fetch next-calls
   walk-walks hb hs zero n i v he κ = inl (stop-walks [] n (add start i) Stop.Limit RS.Stop.Limit v refl nothing (omega arith))
   walk-walks hb hs (suc k) n i v he κ =

@@ -12,17 +12,21 @@ use lib.Pow.{pow-pos}
 use lib.ListN.{length, getD, set, length-set}
 use borrow.Author.Tests.{leb-true, le-leb, eq-eqb, ne-eqb, eqb-true, eqb-false}
 use Rattle.rules.specs.Limits.{max-slot-offset}
-use Rattle.word.specs.Word.{wrap, sext, sign, magnitude, signed, asr, sdiv, mulh, sext128}
+use Rattle.word.specs.Word.{wrap, sext, sign, magnitude, signed, complement, shl, shr, asr, sdiv, mulh, sext128}
+use Rattle.word.specs.Bytes.{reversed}
+use Rattle.word.proofs.Counting.{clz-le}
 use Rattle.word.proofs.Laws.{product-below}
 use Rattle.le.specs.Le as Le
 use Rattle.a64.specs.declared.Op.{Op}
-use Rattle.a64.specs.declared.Op.the-variants.{Add, Sub, And, Orr, Eor, Lslv, Lsrv, Asrv, Mul, Smulh, Umulh, Udiv, Sdiv}
+use Rattle.a64.specs.declared.Op.the-variants.{Add, Sub, And, Orr, Eor, Bic, Orn, Eon, Lslv, Lsrv, Asrv, Rorv, Mul, Smulh, Umulh, Udiv, Sdiv}
+use Rattle.a64.specs.declared.Op1.{Op1}
+use Rattle.a64.specs.declared.Op1.the-variants.{Rev, Clz}
 use Rattle.a64.specs.declared.Form.{Form}
-use Rattle.a64.specs.declared.Form.the-variants.{DataProcessing, Ldr, Str, Movz, Movk, Cmp, Csel, Sxtw, AddSp, SubSp, Blr, Ret, Unreadable}
+use Rattle.a64.specs.declared.Form.the-variants.{DataProcessing, OneSource, Ldr, Str, Movz, Movk, Cmp, Csel, Sxtw, AddSp, SubSp, Blr, Ret, Unreadable}
 use Rattle.a64_alu.specs.declared.Flags.{Flags}
 use Rattle.a64.specs.Forms.{decode}
 use Rattle.a64_exec.specs.Exec.{State, machine, address, reaches, next, exec}
-use Rattle.a64_alu.specs.Alu.{op-value, compared, holds}
+use Rattle.a64_alu.specs.Alu.{op-value, op1-value, compared, holds}
 use Rattle.a64_run.proofs.Straight.{Straight, straight-append, one-form}
 use Rattle.a64_exec.proofs.Slots.{Apart, Slots, slot-stored}
 use Rattle.a64_emitter.specs.Writers as Writers
@@ -50,6 +54,7 @@ result v d w = model (upd (v .r) d w) (v .f) (v .slots)
 
 unfoldable pub form-step : Form → Model → Model
 form-step (DataProcessing q d n m) v = result v d (op-value q (operand v n) (operand v m))
+form-step (OneSource q d n) v = result v d (op1-value q (operand v n))
 form-step (Cmp n m) v = model (v .r) (compared (operand v n) (operand v m)) (v .slots)
 form-step (Csel d n m c) v = result v d (cond (holds c (v .f)) (operand v n) (operand v m))
 form-step (Sxtw d n) v = result v d (sext 32 (operand v n))
@@ -83,6 +88,7 @@ scratch d = eqb d 0 || (leb 9 d && leb d 17)
 unfoldable pub form-fits : Form → Bool
 unfolding scratch
 form-fits (DataProcessing q d n m) = scratch d && (ltb n 32 && ltb m 32)
+form-fits (OneSource q d n) = scratch d && ltb n 32
 form-fits (Cmp n m) = ltb n 32 && ltb m 32
 form-fits (Csel d n m c) = scratch d && (ltb n 32 && ltb m 32)
 form-fits (Sxtw d n) = scratch d && ltb n 32
@@ -99,6 +105,7 @@ form-fits Unreadable = false
 -- the register that a form writes, or another
 unfoldable pub written : Form → ℕ
 written (DataProcessing q d n m) = d
+written (OneSource q d n) = d
 written (Csel d n m c) = d
 written (Sxtw d n) = d
 written (Cmp n m) = 31
@@ -192,14 +199,23 @@ op-lt Sub x y hx hy = omega arith
 op-lt And x y hx hy = and-lt 64 x y hx hy
 op-lt Orr x y hx hy = or-lt 64 x y hx hy
 op-lt Eor x y hx hy = xor-lt 64 x y hx hy
+op-lt Bic x y hx hy = and-lt 64 x (complement y) hx (omega arith)
+op-lt Orn x y hx hy = or-lt 64 x (complement y) hx (omega arith)
+op-lt Eon x y hx hy = xor-lt 64 x (complement y) hx (omega arith)
 op-lt Lslv x y hx hy = omega arith
 op-lt Lsrv x y hx hy = div-lt x (2 ^ (y % 64)) hx
 op-lt Asrv x y hx hy = unfold asr in (cond-lt (sign x) (omega arith) (div-lt x (2 ^ (y % 64)) hx))
+op-lt Rorv x y hx hy = or-lt 64 (shr x (y % 64)) (shl x (64 - y % 64)) (div-lt x (2 ^ (y % 64)) hx) (omega arith)
 op-lt Mul x y hx hy = omega arith
 op-lt Smulh x y hx hy = unfold mulh sext128 in (mod-lt _ (zero-lt-suc _))
 op-lt Umulh x y hx hy = product-below x y (2 ^ 64) (le-of-lt hx) hy (pow-pos 64)
 op-lt Udiv x y hx hy = div-lt x y hx
 op-lt Sdiv x y hx hy = unfold sdiv signed in (cond-lt (xor (sign x) (sign y)) (omega arith) (div-lt (magnitude x) (magnitude y) (magnitude-lt x hx)))
+
+op1-lt : (q : Op1) (x : ℕ) → op1-value q x < 2 ^ 64
+unfolding op1-value reversed
+op1-lt Rev x = omega arith
+op1-lt Clz x = omega (arith, clz-le 64 x)
 
 operand-lt : (v : Model) → ((k : ℕ) → v .r k < 2 ^ 64) → (k : ℕ) → operand v k < 2 ^ 64
 operand-lt v h k = cond-lt (eqb k 31) (omega arith) (h k)
@@ -252,6 +268,7 @@ form-kept : (r₀ : ℕ → ℕ) (b : Bool) (f : Form) (v : Model) → T (form-f
 unfolding form-fits form-step written
 form-kept r₀ b (DataProcessing q d n m) v t κ =
     put-kept r₀ b v κ d _ (and-l (scratch d) _ t) (op-lt q _ _ (operand-lt v (κ .regs) n) (operand-lt v (κ .regs) m))
+form-kept r₀ b (OneSource q d n) v t κ = put-kept r₀ b v κ d _ (and-l (scratch d) _ t) (op1-lt q _)
 form-kept r₀ b (Cmp n m) v t κ =
     record { base = λ t. κ .base (same-base b t); same = κ .same; count = κ .count; small = κ .small; regs = κ .regs }
 form-kept r₀ b (Csel d n m c) v t κ =
@@ -328,6 +345,10 @@ module _ (p : ℕ → ℕ) (m₀ : List ℕ) (base sp o : ℕ) (r₀ : ℕ → �
       let hn : n < 32 = ltb→lt n 32 (and-l (ltb n 32) _ (and-r (scratch d) _ t)) in
       let hm : m < 32 = ltb→lt m 32 (and-r (ltb n 32) _ (and-r (scratch d) _ t)) in
       unfold exec in (rw (operand-tab (v .r) n hn, operand-tab (v .r) m hm, set-tab))
+  form-goes (OneSource q d n) v mem t =
+      let hd : d < 31 = scratch-lt d (and-l (scratch d) _ t) in
+      let hn : n < 32 = ltb→lt n 32 (and-r (scratch d) _ t) in
+      unfold exec in (rw (operand-tab (v .r) n hn, set-tab))
   form-goes (Cmp n m) v mem t =
       let hn : n < 32 = ltb→lt n 32 (and-l (ltb n 32) _ t) in
       let hm : m < 32 = ltb→lt m 32 (and-r (ltb n 32) _ t) in
@@ -354,6 +375,7 @@ module _ (p : ℕ → ℕ) (m₀ : List ℕ) (base sp o : ℕ) (r₀ : ℕ → �
   form-slots : (f : Form) (v : Model) → form-step f v .slots ≡ v .slots
   unfolding form-step
   form-slots (DataProcessing q d n m) v = refl
+  form-slots (OneSource q d n) v = refl
   form-slots (Cmp n m) v = refl
   form-slots (Csel d n m c) v = refl
   form-slots (Sxtw d n) v = refl

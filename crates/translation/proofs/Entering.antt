@@ -25,7 +25,7 @@ use Rattle.a64_run.proofs.Straight.{Straight, straight-run, straight-lt}
 use Rattle.a64_exec.proofs.Slots.{Apart, Slots}
 use Rattle.rv64_run.specs.Run as Rv64
 use Rattle.emit_native.specs.declared.Host.{Host}
-use Rattle.emit_native.specs.Calls.{Call, words, reg-off}
+use Rattle.emit_native.specs.Calls.{Call, product, words, reg-off}
 use Rattle.jit_arm64.specs.Parts.{fence-walk}
 use Rattle.translation.specs.Demand3.{slot, place, Entry}
 use Rattle.translation.proofs.Registers.{tab, tab-getD}
@@ -142,7 +142,7 @@ module _ (o : ℕ) (s : State) (x : List ℕ) (ε : Entry o s x) where
 
 -- the walk of a block and the guest's run
 pub block-walks : (h : Host) (pc limit : ℕ) (guest : List ℕ) → Bytes guest → pc < 2 ^ 64 → pc % 2 ≡ 0 → (r₀ : ℕ → ℕ) (v : Model) → Kept r₀ true v
-    → Follow r₀ pc h guest (fence-walk max-instrs h guest pc limit) v
+    → Follow r₀ pc h guest (fence-walk product max-instrs h guest pc limit) v
     (Rv64.run (h .«ignore_ebreak») (Rv64.clamped limit) 0 guest (Rv64.hart (v .slots) pc))
 block-walks h pc limit guest hb hp he r₀ v κ =
     let e : add pc 0 ≡ pc = omega arith in

@@ -1,4 +1,4 @@
--- The Rust's walk at the limit that FENCE.I leaves is the walk that its first FENCE.I stops. Assumes nothing.
+-- A walk at the limit that FENCE.I leaves is the walk that its first FENCE.I stops. Assumes nothing.
 use mathlib.Core.Path.{_≡_, refl, ap}
 use mathlib.Core.Bool.{true, false, cond, true≢false}
 use mathlib.Core.List.{List, _++_}
@@ -9,7 +9,7 @@ use lib.Dec.{eqb}
 use Rattle.word.specs.Word.{add}
 use Rattle.emit_native.specs.declared.EmitFlow.{EmitFlow}
 use Rattle.emit_native.specs.declared.Host.{Host}
-use Rattle.emit_native.specs.Calls.{Call, Emission}
+use Rattle.emit_native.specs.Calls.{Call, product, Emission}
 use Rattle.emit_native.proofs.Size.{by}
 use Rattle.jit_arm64.specs.Block.{Walk, in-front, size-of, emit-term-helper, helped, step, instr-walk, walk, whole-walk, fetch}
 use Rattle.jit_arm64.specs.Fence.{is-fence-i, fence-or, to-fence, fence, limit-at}
@@ -75,12 +75,12 @@ module _ (h : Host) (guest : List ℕ) (start limit most : ℕ) where
   unlike (suc m) instr n i f = rw f refl
 
   module _ (k n : ℕ) (hk : min limit most ≡ suc n + k)
-      (go : (j m : ℕ) → walk h guest start k (suc n) j .count ≡ suc n + m
-      → Left (to-fence guest start m (suc n) j) (suc n) (λ (l : ℕ). walk h guest start l (suc n) j) (cut guest start k j)) where
-    step-cut : (f : EmitFlow) (e helper : Emission) (size i m : ℕ) → step f e helper size start n i (walk h guest start k) .count ≡ n + m
-        → Left (after m n (i + size)) (suc n) (λ (l : ℕ). step f e helper size start n i (walk h guest start l)) (cut guest start k (i + size))
+      (go : (j m : ℕ) → walk product h guest start k (suc n) j .count ≡ suc n + m
+      → Left (to-fence guest start m (suc n) j) (suc n) (λ (l : ℕ). walk product h guest start l (suc n) j) (cut guest start k j)) where
+    step-cut : (f : EmitFlow) (e helper : Emission) (size i m : ℕ) → step f e helper size start n i (walk product h guest start k) .count ≡ n + m
+        → Left (after m n (i + size)) (suc n) (λ (l : ℕ). step f e helper size start n i (walk product h guest start l)) (cut guest start k (i + size))
     unfolding step after limit-at
-    step-cut EmitFlow.Continue e helper size i zero c = absurd (omega (arith, walk-count h guest start k (suc n) (i + size), c))
+    step-cut EmitFlow.Continue e helper size i zero c = absurd (omega (arith, walk-count product h guest start k (suc n) (i + size), c))
     step-cut EmitFlow.Continue e helper size i (suc m) c =
         let y = go (i + size) m (omega (arith, c)) in
         record { left = y .left; is = y .is; same = ap (in-front (e .calls)) (y .same); ends = y .ends }
@@ -90,15 +90,15 @@ module _ (h : Host) (guest : List ℕ) (start limit most : ℕ) where
         let l = helped-most (helper .flow) (e .calls ++ helper .calls) n (add start i) in
         rw (few m n (i + size) (omega (arith, c, l))) (record { left = k; is = hk; same = refl; ends = λ j. never j })
 
-    fence-cut : (instr i m : ℕ) → is-fence-i instr ≡ true → instr-walk h (some instr) start n i (walk h guest start k) .count ≡ n + m
-        → Left (seek m (some instr) n i) (suc n) (λ (l : ℕ). instr-walk h (some instr) start n i (walk h guest start l)) 0
+    fence-cut : (instr i m : ℕ) → is-fence-i instr ≡ true → instr-walk product h (some instr) start n i (walk product h guest start k) .count ≡ n + m
+        → Left (seek m (some instr) n i) (suc n) (λ (l : ℕ). instr-walk product h (some instr) start n i (walk product h guest start l)) 0
     unfolding instr-walk step walk seek fence-or limit-at
     fence-cut instr i zero f c =
-        absurd (omega (arith, walk-count h guest start k (suc n) (i + size-of instr), rw (fence-goes-on h (add start i) instr f) at c))
-    fence-cut instr i (suc m) f c = rw f (record { left = 0; is = omega (arith, hk); same = refl; ends = λ j e. rw (fence-goes-on h (add start i) instr f) (refl, cc) })
+        absurd (omega (arith, walk-count product h guest start k (suc n) (i + size-of instr), rw (fence-goes-on product h (add start i) instr f) at c))
+    fence-cut instr i (suc m) f c = rw f (record { left = 0; is = omega (arith, hk); same = refl; ends = λ j e. rw (fence-goes-on product h (add start i) instr f) (refl, cc) })
 
-    instr-cut : (f : Option ℕ) (i m : ℕ) → instr-walk h f start n i (walk h guest start k) .count ≡ n + m
-        → Left (seek m f n i) (suc n) (λ (l : ℕ). instr-walk h f start n i (walk h guest start l)) (behind f (λ (size : ℕ). cut guest start k (i + size)))
+    instr-cut : (f : Option ℕ) (i m : ℕ) → instr-walk product h f start n i (walk product h guest start k) .count ≡ n + m
+        → Left (seek m f n i) (suc n) (λ (l : ℕ). instr-walk product h f start n i (walk product h guest start l)) (behind f (λ (size : ℕ). cut guest start k (i + size)))
     unfolding instr-walk behind seek fence-or limit-at
     instr-cut none i zero c = record { left = k; is = hk; same = refl; ends = λ j. never j }
     instr-cut none i (suc m) c = record { left = k; is = hk; same = refl; ends = λ j. never j }
@@ -106,8 +106,8 @@ module _ (h : Host) (guest : List ℕ) (start limit most : ℕ) where
         by (is-fence-i instr) (λ f. rw f (fence-cut instr i m f c))
         (λ f. rw (unlike m instr n i f, f) (step-cut _ _ (emit-term-helper h (add start i) instr n) (size-of instr) i m c))
 
-  walk-cut : (k n i m : ℕ) → min limit most ≡ n + k → walk h guest start k n i .count ≡ n + m
-      → Left (to-fence guest start m n i) n (λ (l : ℕ). walk h guest start l n i) (cut guest start k i)
+  walk-cut : (k n i m : ℕ) → min limit most ≡ n + k → walk product h guest start k n i .count ≡ n + m
+      → Left (to-fence guest start m n i) n (λ (l : ℕ). walk product h guest start l n i) (cut guest start k i)
   unfolding walk cut to-fence limit-at
   walk-cut zero n i m hk c = let e : m ≡ 0 = omega (arith, c) in rw e (record { left = 0; is = hk; same = refl; ends = λ j. never j })
   walk-cut (suc k) n i m hk c =
@@ -118,21 +118,21 @@ module _ (h : Host) (guest : List ℕ) (start limit most : ℕ) where
   k = min limit most
 
   abbrev o : Option ℕ
-  o = to-fence guest start (walk h guest start k 0 0 .count) 0 0
+  o = to-fence guest start (walk product h guest start k 0 0 .count) 0 0
 
-  at-start : Left o 0 (λ (l : ℕ). walk h guest start l 0 0) (cut guest start k 0)
-  at-start = walk-cut k 0 0 (walk h guest start k 0 0 .count) (omega arith) (omega arith)
+  at-start : Left o 0 (λ (l : ℕ). walk product h guest start l 0 0) (cut guest start k 0)
+  at-start = walk-cut k 0 0 (walk product h guest start k 0 0 .count) (omega arith) (omega arith)
 
   left-is : min (limit-at o limit) most ≡ at-start .left
   left-is = omega (arith, at-start .is)
 
-  pub whole-cut : fence-walk most h guest start limit ≡ walk h guest start (cut guest start k 0) 0 0
+  pub whole-cut : fence-walk product most h guest start limit ≡ walk product h guest start (cut guest start k 0) 0 0
   unfolding whole-walk fence
   whole-cut = rw left-is (at-start .same)
 
   -- the block that FENCE.I ends has its own count as its limit
-  pub whole-ends : (m : ℕ) → fence most h guest start limit ≡ some m
-      → (fence-walk most h guest start limit .stop ≡ Stop.Limit)
-      × (fence-walk most h guest start limit .count ≡ m)
+  pub whole-ends : (m : ℕ) → fence product most h guest start limit ≡ some m
+      → (fence-walk product most h guest start limit .stop ≡ Stop.Limit)
+      × (fence-walk product most h guest start limit .count ≡ m)
   unfolding whole-walk fence
   whole-ends m e = rw left-is (at-start .ends m e)

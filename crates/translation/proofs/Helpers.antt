@@ -15,7 +15,10 @@ use Rattle.rv64.specs.Decode.{Table, lookup}
 use Rattle.rv64.specs.Decode as D
 use Rattle.rvc.specs.Compressed as C
 use Rattle.emit_native.specs.declared.Host.{Host}
+use Rattle.isa.specs.declared.zbb.Found.{Found}
+use Rattle.isa.specs.Zbb.{find}
 use Rattle.isa.specs.Decode as Rust
+use Rattle.isa.proofs.ZbbRows.{opcode-of}
 use Rattle.jit_arm64.specs.Fence.{is-fence-i}
 use Rattle.term_helper.specs.TermHelper as TH
 use Rattle.emit_native.specs.declared.EmitFlow.{EmitFlow}
@@ -25,6 +28,8 @@ use Rattle.translation.proofs.Agree32.{digit}
 unfoldable pub sort : Instr → ℕ
 sort (Instr.Op k d a b) = 0
 sort (Instr.OpImm k d a c) = 0
+sort (Instr.Zbb k d a b) = 0
+sort (Instr.ZbbImm k d a c) = 0
 sort (Instr.Lui d c) = 0
 sort (Instr.Auipc d c) = 0
 sort (Instr.Jal d c) = 0
@@ -60,7 +65,7 @@ unless n i p = any (eqb n 0) Instr.Uncovered i refl p
 
 module _ (h : Host) (pc w n : ℕ) where
   abbrev Same : Type 0
-  Same = cond (is-fence-i w) 2 (took (TH.emit-native-term-helper32 h pc w (Rust.decode32 w) n .flow)) ≡ sort (D.by-class (class-of (w % 128)) w)
+  Same = cond (is-fence-i w) 2 (took (TH.emit-native-term-helper32 h pc w (Rust.decode32 w) n .flow)) ≡ sort (D.base32 w)
 
   load-by : (d : Decoded32) (t : ℕ) → t < 8 → funct3 w ≡ t → took (TH.load-helper h pc w d n t .flow) ≡ sort (D.below w 7 Instr.Helper)
   unfolding TH.load-helper TH.load-op D.below sort
@@ -88,9 +93,9 @@ module _ (h : Host) (pc w n : ℕ) where
       by true q = f (eqb-true (w % 128) k q)
       by false q = g q
 
-  pub sorts32 : Same
-  unfolding TH.emit-native-term-helper32 TH.opcode-helper D.by-class class-of D.op D.op32 D.op-imm D.shift-imm D.op-imm-32 D.shift-imm-32 D.branch D.below sort
-  sorts32 =
+  base-sorts : Same
+  unfolding TH.emit-native-term-helper32 TH.opcode-helper D.base32 D.by-class class-of D.op D.op32 D.op-imm D.shift-imm D.op-imm-32 D.shift-imm-32 D.branch D.below sort
+  base-sorts =
       is 0x03 (λ e. rw e (load-by _ (funct3 w) (omega arith) refl)) (λ a.
       is 0x23 (λ e. rw e (store-by _ (funct3 w) (omega arith) refl)) (λ b.
       is 0x07 (λ e. rw e) (λ c.
@@ -105,6 +110,23 @@ module _ (h : Host) (pc w n : ℕ) where
       is 0x0F (λ e. rw e (fence-by (funct3 w) (omega arith) refl)) (λ p.
       is 0x37 (λ e. rw e) (λ q. is 0x17 (λ e. rw e) (λ r. is 0x6F (λ e. rw e) (λ s. is 0x67 (λ e. rw e) (λ t.
       rw (a, b, c, d, f, g, i, j, l, m, o, p, q, r, s, t)))))))))))))))))
+
+  neither : (find w ≡ Found.Nothing → ⊥) → cond (is-fence-i w) 2 (took (TH.emit-native-term-helper32 h pc w (Rust.decode32 w) n .flow)) ≡ 0
+  unfolding TH.emit-native-term-helper32 TH.opcode-helper
+  neither = opcode-of w _ (λ e. rw e) (λ e. rw e) (λ e. rw e) (λ e. rw e)
+
+  -- with Zbb first, none of which is a helper's
+  zbb-sorts : (f : Found) → find w ≡ f
+      → cond (is-fence-i w) 2 (took (TH.emit-native-term-helper32 h pc w (Rust.decode32 w) n .flow)) ≡ sort (D.zbb-or f w (D.base32 w))
+  unfolding D.zbb-or sort
+  zbb-sorts Found.Nothing e = base-sorts
+  zbb-sorts (Found.Register z) e = neither (λ q. let y : _≡_ {A = ℕ} 0 1 = cc in omega arith)
+  zbb-sorts (Found.Number z k) e = neither (λ q. let y : _≡_ {A = ℕ} 0 1 = cc in omega arith)
+  zbb-sorts (Found.Unary z) e = neither (λ q. let y : _≡_ {A = ℕ} 0 1 = cc in omega arith)
+
+  pub sorts32 : cond (is-fence-i w) 2 (took (TH.emit-native-term-helper32 h pc w (Rust.decode32 w) n .flow)) ≡ sort (D.decode32 w)
+  unfolding D.decode32
+  sorts32 = zbb-sorts (find w) refl
 
 -- ---- 16 bits
 

@@ -251,7 +251,7 @@ even x h = and-high x 63 1 ∙ omega arith
 
 module _ (r₀ : ℕ → ℕ) (n pc : ℕ) (v : Model) (κ : Kept r₀ true v) where
   -- fine calls after fine ones that leave the result in X11
-  result-agrees : (pre cs : List Call) (i : Instr) (d w : ℕ) → Fine pre → Fine cs → d < 32 → calls-run cs (calls-run pre v) .r 11 ≡ w
+  pub result-agrees : (pre cs : List Call) (i : Instr) (d w : ℕ) → Fine pre → Fine cs → d < 32 → calls-run cs (calls-run pre v) .r 11 ≡ w
       → exec i n pc (v .slots) ≡ record { x = write (v .slots) d w; flow = Flow.Next (add pc n) }
       → Agrees n pc v i (calls-first pre (then-store-rd d (continue cs)))
   unfolding store-rd

@@ -73,26 +73,26 @@ helper-only (some m) why p = absurd (omega arith)
 
 module _ (h : Host) (pc limit : ℕ) (guest out : List ℕ) (hb : Bytes guest) (hp : pc < 2 ^ 64) where
   abbrev f : Option ℕ
-  f = fence max-instrs h guest pc limit
+  f = fence product max-instrs h guest pc limit
 
   abbrev W : Walk
-  W = fence-walk max-instrs h guest pc limit
+  W = fence-walk product max-instrs h guest pc limit
 
   -- what is known where nothing is refused
   record Accepted : Type 0 where
     offset : bad-slot-offset (h .«slot_offset») ≡ false
-    block : refuses h guest pc limit ≡ false
+    block : refuses product h guest pc limit ≡ false
     is : translate h guest pc limit out ≡ accepted (block-of product h W) (end-kind f (W .stop)) out
 
   block-is : compile-native-block product max-instrs h guest pc (limit-at f limit)
-      ≡ cond (refuses h guest pc limit) none (some (block-of product h W))
+      ≡ cond (refuses product h guest pc limit) none (some (block-of product h W))
   block-is = no-block-with-fence product (max-instrs - 1) h guest pc limit hp
 
   -- no refusal's
   abbrev Unrefused : Result → Type 0
   Unrefused r = (n : ℕ) → 1 ≤ n → r ≡ refused n out → ⊥
 
-  by : (a t s : Bool) → bad-slot-offset (h .«slot_offset») ≡ a → refuses h guest pc limit ≡ t
+  by : (a t s : Bool) → bad-slot-offset (h .«slot_offset») ≡ a → refuses product h guest pc limit ≡ t
       → ltb (length out) (length (block-of product h W .code)) ≡ s → Unrefused (translate h guest pc limit out)
       → Accepted
   unfolding translate of-block
@@ -123,7 +123,7 @@ module _ (h : Host) (pc limit : ℕ) (guest out : List ℕ) (hb : Bytes guest) (
     offset = offset-by (h .«slot_offset») _ _ refl refl (a .offset)
 
     even : pc % 2 ≡ 0
-    even = omega (arith, eqb-false (pc % 2) 1 (second (eqb limit 0) (eqb (pc % 2) 1) (first h guest pc) (a .block)))
+    even = omega (arith, eqb-false (pc % 2) 1 (second (eqb limit 0) (eqb (pc % 2) 1) (first product h guest pc) (a .block)))
 
     r-is : r ≡ accepted (block-of product h W) (end-kind f (W .stop)) out
     r-is = e ∙ a .is

@@ -73,26 +73,26 @@ step-most EmitFlow.Continue e helper m start n i k rest h = omega (arith, h (i +
 step-most EmitFlow.Terminate e helper m start n i k rest h = omega arith
 step-most EmitFlow.None e helper m start n i k rest h = omega (arith, helped-most (helper .flow) (e .calls ++ helper .calls) n (add start i))
 
-instr-most : (h : Host) (f : Option ℕ) (start n i k : ℕ) (rest : ℕ → ℕ → Walk) → ((j : ℕ) → rest (suc n) j .count ≤ suc n + k) → instr-walk h f start n i rest .count ≤ n + suc k
+instr-most : (h : Host) (f : Option ℕ) (start n i k : ℕ) (rest : ℕ → ℕ → Walk) → ((j : ℕ) → rest (suc n) j .count ≤ suc n + k) → instr-walk product h f start n i rest .count ≤ n + suc k
 unfolding instr-walk
 instr-most h none start n i k rest l = omega arith
 instr-most h (some instr) start n i k rest l = step-most _ _ _ (size-of instr) start n i k rest l
 
-walk-most : (h : Host) (guest : List ℕ) (start k n i : ℕ) → walk h guest start k n i .count ≤ n + k
+walk-most : (h : Host) (guest : List ℕ) (start k n i : ℕ) → walk product h guest start k n i .count ≤ n + k
 unfolding walk
 walk-most h guest start zero n i = omega arith
-walk-most h guest start (suc k) n i = instr-most h _ start n i k (walk h guest start k) (λ j. walk-most h guest start k (suc n) j)
+walk-most h guest start (suc k) n i = instr-most h _ start n i k (walk product h guest start k) (λ j. walk-most h guest start k (suc n) j)
 
-pub count-small : (h : Host) (guest : List ℕ) (pc limit : ℕ) → fence-walk max-instrs h guest pc limit .count < 2 ^ 64
+pub count-small : (h : Host) (guest : List ℕ) (pc limit : ℕ) → fence-walk product max-instrs h guest pc limit .count < 2 ^ 64
 unfolding whole-walk
-count-small h guest pc limit = omega (arith, walk-most h guest pc (min (limit-at (fence max-instrs h guest pc limit) limit) max-instrs) 0 0)
+count-small h guest pc limit = omega (arith, walk-most h guest pc (min (limit-at (fence product max-instrs h guest pc limit) limit) max-instrs) 0 0)
 
 -- ---- the block, from a state at entry
 
 module _ (h : Host) (pc limit : ℕ) (guest : List ℕ) (hb : Bytes guest) (hp : pc < 2 ^ 64) (he : pc % 2 ≡ 0)
-    (ho : h .«slot_offset» ≤ max-slot-offset) (h8 : h .«slot_offset» % 8 ≡ 0) (free : fence-walk max-instrs h guest pc limit .stop ≡ Stop.Helper → ⊥) where
+    (ho : h .«slot_offset» ≤ max-slot-offset) (h8 : h .«slot_offset» % 8 ≡ 0) (free : fence-walk product max-instrs h guest pc limit .stop ≡ Stop.Helper → ⊥) where
   abbrev W : Walk
-  W = fence-walk max-instrs h guest pc limit
+  W = fence-walk product max-instrs h guest pc limit
 
   abbrev ws : List ℕ
   ws = counted (h .«slot_offset») W

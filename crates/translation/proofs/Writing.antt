@@ -1,15 +1,17 @@
--- The Rust's word writers write the Arm manual's words: each word is `encode` of its form, and so `decode` reads the form. Assumes nothing.
+-- The word writers write the Arm manual's words: each word is `encode` of its form, and so `decode` reads the form. Assumes nothing.
 use mathlib.Core.Path.{_≡_, refl}
 use mathlib.Core.Bool.{Bool, true, false, cond}
 use mathlib.Core.List.{List, [], _∷_, _++_, map, map-append}
 use Prim.Native.Nat.{ℕ, _/_, _%_, _<_}
 use native.Mathlib.Omega.{arith}
 use lib.Dec.{eqb}
-use Rattle.a64.specs.declared.Op.the-variants.{Add, Sub, And, Orr, Eor, Lslv, Lsrv, Asrv, Mul, Smulh, Umulh, Udiv, Sdiv}
+use Rattle.a64.specs.declared.Op.the-variants.{Add, Sub, And, Orr, Eor, Bic, Orn, Eon, Lslv, Lsrv, Asrv, Rorv, Mul, Smulh, Umulh, Udiv, Sdiv}
+use Rattle.a64.specs.declared.Op1.the-variants.{Rev, Clz}
 use Rattle.a64.specs.declared.Form.{Form}
-use Rattle.a64.specs.declared.Form.the-variants.{DataProcessing, Ldr, Str, Movz, Movk, Cmp, Csel, Sxtw, AddSp, SubSp, Blr, Ret}
+use Rattle.a64.specs.declared.Form.the-variants.{DataProcessing, OneSource, Ldr, Str, Movz, Movk, Cmp, Csel, Sxtw, AddSp, SubSp, Blr, Ret}
 use Rattle.a64.specs.Forms.{encode}
 use Rattle.a64_emitter.specs.Writers.{ldr-x, str-x, add-x, sub-x, and-x, orr-x, eor-x, lslv-x, lsrv-x, asrv-x, mul-x, smulh-x, umulh-x, udiv-x, sdiv-x, mov-x, sub-sp-imm, add-sp-imm, blr, cmp-x, csel-x, sxtw-x, ret, part, movk, mov-imm64}
+use Rattle.a64_emitter.specs.Zbb.{bic-x, orn-x, eon-x, rorv-x, rev-x, clz-x}
 
 pub ldr-x-is : (rt rn off : ℕ) → ldr-x rt rn off ≡ encode (Ldr rt rn (off / 8))
 ldr-x-is rt rn off = refl
@@ -76,6 +78,24 @@ csel-x-is rd rn rm c h = omega arith
 
 pub sxtw-x-is : (rd rn : ℕ) → sxtw-x rd rn ≡ encode (Sxtw rd rn)
 sxtw-x-is rd rn = refl
+
+pub bic-x-is : (rd rn rm : ℕ) → bic-x rd rn rm ≡ encode (DataProcessing Bic rd rn rm)
+bic-x-is rd rn rm = refl
+
+pub orn-x-is : (rd rn rm : ℕ) → orn-x rd rn rm ≡ encode (DataProcessing Orn rd rn rm)
+orn-x-is rd rn rm = refl
+
+pub eon-x-is : (rd rn rm : ℕ) → eon-x rd rn rm ≡ encode (DataProcessing Eon rd rn rm)
+eon-x-is rd rn rm = refl
+
+pub rorv-x-is : (rd rn rm : ℕ) → rorv-x rd rn rm ≡ encode (DataProcessing Rorv rd rn rm)
+rorv-x-is rd rn rm = refl
+
+pub rev-x-is : (rd rn : ℕ) → rev-x rd rn ≡ encode (OneSource Rev rd rn)
+rev-x-is rd rn = refl
+
+pub clz-x-is : (rd rn : ℕ) → clz-x rd rn ≡ encode (OneSource Clz rd rn)
+clz-x-is rd rn = refl
 
 pub ret-is : ret ≡ encode Ret
 ret-is = refl

@@ -42,7 +42,7 @@ module _ (h : Host) (guest : List ℕ) (pc limit : ℕ) where
 
   module _ (hp : pc < 2 ^ 64) (good : bad-slot-offset (h .«slot_offset») ≡ false) where
     -- no block
-    stopped : (n : ℕ) (out : List ℕ) → refuses h guest pc limit ≡ true → no-block guest pc limit ≡ n → Refused n out
+    stopped : (n : ℕ) (out : List ℕ) → refuses product h guest pc limit ≡ true → no-block guest pc limit ≡ n → Refused n out
     unfolding translate of-block
     stopped n out t e = rw (good, no-block-with-fence product (max-instrs - 1) h guest pc limit hp, t, e) refl
 
@@ -59,11 +59,11 @@ module _ (h : Host) (guest : List ℕ) (pc limit : ℕ) where
       -- the walk counted nothing: its stop says why there is no block
       module _ (b : pc % 2 ≡ 1 → ⊥) {ws : List ℕ} {r : Walked} (v : BlockOf h guest pc limit ws r) (none-counted : r .n ≡ 0) where
         why : missed (r .stop) ≡ is-missing (fetch pc guest 0)
-        why = rw (v .stop) (none-why (max-instrs - 1) h guest pc limit hp a (sym (v .count) ∙ none-counted))
+        why = rw (v .stop) (none-why product (max-instrs - 1) h guest pc limit hp a (sym (v .count) ∙ none-counted))
 
         nothing : (n : ℕ) (out : List ℕ) → no-block guest pc limit ≡ n → Refused n out
         unfolding translate of-block compile-native-block
-        nothing n out e = rw (good, eq-eqb (fence-walk max-instrs h guest pc limit .count) 0 (sym (v .count) ∙ none-counted), e) refl
+        nothing n out e = rw (good, eq-eqb (fence-walk product max-instrs h guest pc limit .count) 0 (sym (v .count) ∙ none-counted), e) refl
 
         pub not-fetched : (out : List ℕ) → missed (r .stop) ≡ true → Refused Refusals.not-fetched out
         unfolding no-block
@@ -76,12 +76,12 @@ module _ (h : Host) (guest : List ℕ) (pc limit : ℕ) where
 -- a block's words, written to the output where they fit
 module _ {h : Host} {guest : List ℕ} {pc limit : ℕ} (good : bad-slot-offset (h .«slot_offset») ≡ false) {ws : List ℕ} {r : Walked} (v : BlockOf h guest pc limit ws r)
     (counted : r .n ≡ 0 → ⊥) {out : List ℕ} {len : ℕ} {out′ : List ℕ} (w : Written ws out len out′) where
-  code-is : bytes ws ≡ block-of product h (fence-walk max-instrs h guest pc limit) .code
+  code-is : bytes ws ≡ block-of product h (fence-walk product max-instrs h guest pc limit) .code
   code-is = ap bytes (v .holds)
 
-  found : compile-native-block product max-instrs h guest pc (limit-at (fence max-instrs h guest pc limit) limit) ≡ some (block-of product h (fence-walk max-instrs h guest pc limit))
+  found : compile-native-block product max-instrs h guest pc (limit-at (fence product max-instrs h guest pc limit) limit) ≡ some (block-of product h (fence-walk product max-instrs h guest pc limit))
   unfolding compile-native-block
-  found = rw (ne-eqb (fence-walk max-instrs h guest pc limit .count) 0 (λ q. counted (v .count ∙ q))) refl
+  found = rw (ne-eqb (fence-walk product max-instrs h guest pc limit .count) 0 (λ q. counted (v .count ∙ q))) refl
 
   too-short : length out < len → refused Refusals.output-short out′ ≡ translate h guest pc limit out
   unfolding translate of-block written
@@ -91,7 +91,7 @@ module _ {h : Host} {guest : List ℕ} {pc limit : ℕ} (good : bad-slot-offset 
       rw (good, found, ← code-is, lt-ltb (length out) (length (bytes ws)) k, o) refl
 
   is-accepted : len ≤ length out
-      → result (record { refusal = 0; length = len; count = r .n; end = end-number (end-kind (fence max-instrs h guest pc limit) (r .stop)) }) out′ ≡ translate h guest pc limit out
+      → result (record { refusal = 0; length = len; count = r .n; end = end-number (end-kind (fence product max-instrs h guest pc limit) (r .stop)) }) out′ ≡ translate h guest pc limit out
   unfolding translate of-block written
   is-accepted l =
       let k : length (bytes ws) ≤ length out = rw (w .count) at l in
@@ -99,14 +99,14 @@ module _ {h : Host} {guest : List ℕ} {pc limit : ℕ} (good : bad-slot-offset 
 
   pub answered : {a : Answer} → ((f : Option ℕ) → r .fence ≡ is-fenced f → a ≡ answer-of f r len (length out)) → result a out′ ≡ translate h guest pc limit out
   answered is =
-      let e = is (fence max-instrs h guest pc limit) (v .fence) in
+      let e = is (fence product max-instrs h guest pc limit) (v .fence) in
       by (ltb (length out) len) (λ t. rw (e, t) (too-short (ltb-true (length out) len t))) (λ t. rw (e, t) (is-accepted (ltb-false (length out) len t)))
 
 -- the limit may be clamped before
 pub clamped-block : {h : Host} {guest : List ℕ} {pc limit most : ℕ} {ws : List ℕ} {r : Walked} → most ≡ min limit max-instrs → BlockOf h guest pc most ws r → BlockOf h guest pc limit ws r
 clamped-block {h} {guest} {pc} {limit} {most} e v =
-    let w = clamped-walk h guest pc limit in
-    let f = clamped-fence h guest pc limit in
+    let w = clamped-walk product h guest pc limit in
+    let f = clamped-fence product h guest pc limit in
     let u = rw e at v in
     record { holds = u .holds ∙ rw w refl; count = u .count ∙ rw w refl; stop = u .stop ∙ rw w refl; fence = u .fence ∙ rw f refl }
 

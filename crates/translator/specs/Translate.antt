@@ -69,6 +69,6 @@ of-block (some b) why f output =
 
 unfoldable pub translate : Host → List ℕ → ℕ → ℕ → List ℕ → Result
 translate h guest pc limit output =
-    let f = fence max-instrs h guest pc limit in
+    let f = fence product max-instrs h guest pc limit in
     cond (bad-slot-offset (h .«slot_offset»)) (refused Refusals.slot-offset output)
     (of-block (compile-native-block product max-instrs h guest pc (limit-at f limit)) (no-block guest pc limit) f output)

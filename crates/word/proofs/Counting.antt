@@ -6,7 +6,7 @@ use native.Mathlib.Omega.{arith}
 use native.Mathlib.Nat.{mod-lt, mod-one, mod-eq-of-lt, pow-suc}
 use lib.Dec.{eqb}
 use lib.Pow.{pow-pos, mod-pow-add, mod-mod-pow, field}
-use lib.Count.{ones, ones-cat, leadingZeros, leading-length, leading-unique, trailingZeros, under}
+use lib.Count.{ones, ones-cat, leadingZeros, leading-le, leading-length, leading-unique, trailingZeros, under}
 use borrow.Author.Tests.{eqb-true, eqb-false, ne-eqb}
 use Rattle.word.specs.Counts.{bit-at, clz, ctz, cpop}
 
@@ -55,6 +55,9 @@ clz-leading (suc k) x = by (eqb (bit-at k x) 0) refl (clz-leading k x)
         let z : bit-at k x ≡ 1 = omega (arith, eqb-false (bit-at k x) 0 q) in
         let e : x % 2 ^ suc k ≡ 2 ^ k + x % 2 ^ k = low-bits k x ∙ ap (λ (n : ℕ). n * 2 ^ k + x % 2 ^ k) z ∙ omega arith in
         sym (leading-set k (x % 2 ^ k) r<p) ∙ ap (leadingZeros (suc k)) (sym e)
+
+pub clz-le : (k x : ℕ) → clz k x ≤ k
+clz-le k x = rw (clz-leading k x) (leading-le k (x % 2 ^ k))
 
 pub ctz-trailing : (k x : ℕ) → ctz k x ≡ trailingZeros k x
 unfolding ctz trailingZeros

@@ -9,3 +9,4 @@ pub mod Ones
 pub mod Zeros
 pub mod Orc
 pub mod Rotations
+pub mod Xnor
