@@ -14,7 +14,7 @@ whole x h = omega arith
 none : (x : ℕ) → x < 2 ^ 64 → x / 2 ^ 64 ≡ 0
 none x h = omega arith
 
-other-way : (x s t : ℕ) → x < 2 ^ 64 → t ≡ (64 - s) % 64 → s < 64 → ror x t ≡ rol x s
+pub other-way : (x s t : ℕ) → x < 2 ^ 64 → t ≡ (64 - s) % 64 → s < 64 → ror x t ≡ rol x s
 other-way x zero t h e l = ap (ror x) e ∙ rw (div-one x, mul-mod-left x (2 ^ 64), whole x h, none x h)
 other-way x (suc s) t h e l =
     let e' : t ≡ 64 - suc s = omega arith in

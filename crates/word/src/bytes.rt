@@ -39,3 +39,11 @@ pub fn ror(x: u64, s: u32) -> u64
     }
     (x >> s) | (x << (64 - s))
 }
+
+// A rotation to the left by s places.
+pub fn rol(x: u64, s: u32) -> u64
+    requires { ⌜ s < 64 ⌝ }
+    ensures { λ r. ⌜ r ≡ B.rol x s ⌝ }
+{
+    ror(x, (64 - s) % 64)
+}
