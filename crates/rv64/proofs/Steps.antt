@@ -115,8 +115,8 @@ module _ (w pc : ℕ) (x : List ℕ) where
   done k = made-by (D.by-class k w)
 
   -- where the opcode is none that the stepper's `match` has before it
-  pub other : {next : ℕ} → next ≡ add pc 4 → (P : Type 0) → Missed P computing (w % 128) → S.Gives (S.other w next) (D.decode32 w) 4 pc x
-  unfolding S.other S.others S.applied exec D.decode32 D.by-class class-of
+  pub other : {next : ℕ} → next ≡ add pc 4 → (P : Type 0) → Missed P computing (w % 128) → S.Gives (S.other w next) (D.base32 w) 4 pc x
+  unfolding S.other S.others S.applied exec D.base32 D.by-class class-of
   other e P h =
       let load = below 7 Instr.Helper Effect.Helper (omega N.arith) refl in
       let store = below 4 Instr.Helper Effect.Helper (omega N.arith) refl in rw e (

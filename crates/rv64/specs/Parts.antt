@@ -6,7 +6,9 @@ use mathlib.Core.List.{List, [], _∷_}
 use Prim.Native.Nat.{ℕ, _+_, _*_, _<_}
 use lib.Dec.{ltb}
 use Rattle.word.specs.Word.{add}
-use Rattle.isa.specs.Formats.{inst, opcode, funct3, i-imm}
+use Rattle.isa.specs.declared.zbb.Found.{Found}
+use Rattle.isa.specs.Zbb.{find}
+use Rattle.isa.specs.Formats.{inst, opcode, rd, rs1, rs2, funct3, i-imm}
 use Rattle.rv64.specs.declared.alu.Alu.{Alu}
 use Rattle.rv64.specs.declared.alu.Cond.{Cond}
 use Rattle.rv64.specs.declared.decode.Instr.{Instr}
@@ -14,9 +16,10 @@ use Rattle.rv64.specs.declared.execute.Flow.{Flow}
 use Rattle.rv64.specs.declared.execute.Effect.{Effect}
 use Rattle.rv64.specs.declared.execute.Computed.{Computed}
 use Rattle.rv64.specs.Alu.{value, taken}
+use Rattle.rv64.specs.Zbb.{zbb-value}
 use Rattle.rv64.specs.Decode.{Table, lookup, itself, imms, shifts, imms32, shifts32, branches, funct10}
 use Rattle.rv64.specs.Execute as X
-use Rattle.rv64.specs.Execute.{Step, exec, next, write}
+use Rattle.rv64.specs.Execute.{Step, exec, next, read, write}
 
 -- the answer flow and the registers x are those of a step
 abbrev pub Does : Step → Flow → List ℕ → Type 0
@@ -60,10 +63,30 @@ shift-imm-32 w x = computed shifts32 (funct10 w) x (inst 24 20 w) Computed.Reser
 unfoldable pub op-imm-32 : ℕ → ℕ → Computed
 op-imm-32 w x = computed imms32 (funct3 w) x (i-imm w) (shift-imm-32 w x)
 
+-- what a Zbb instruction computes of x and y
+unfoldable pub zbb-computed : Found → ℕ → ℕ → Computed
+zbb-computed (Found.Register z) x y = Computed.Value (zbb-value z x y)
+zbb-computed (Found.Number z n) x y = Computed.Value (zbb-value z x n)
+zbb-computed (Found.Unary z) x y = Computed.Value (zbb-value z x 0)
+zbb-computed Found.Nothing x y = Computed.Reserved
+
 -- a computed value in rd
 unfoldable pub put : Computed → ℕ → Effect
 put (Computed.Value v) rd = Effect.Set rd v
 put Computed.Reserved rd = Effect.Uncovered
+
+-- the effect of a Zbb word on the registers x
+unfoldable pub zbb-effect : ℕ → List ℕ → Effect
+zbb-effect w x = put (zbb-computed (find w) (read x (rs1 w)) (read x (rs2 w))) (rd w)
+
+-- e, or f where e is uncovered
+unfoldable pub or-else : Effect → Effect → Effect
+or-else (Effect.Set rd v) f = Effect.Set rd v
+or-else (Effect.Link rd to) f = Effect.Link rd to
+or-else (Effect.Ended to) f = Effect.Ended to
+or-else Effect.Next f = Effect.Next
+or-else Effect.Helper f = Effect.Helper
+or-else Effect.Uncovered f = f
 
 abbrev pub ended : Bool → ℕ → ℕ → Effect
 ended t to pc = Effect.Ended (cond t to pc)

@@ -19,6 +19,7 @@ use crate::execute::apply;
 use crate::execute::ended;
 use crate::execute::put;
 use crate::execute::read;
+use crate::zbb::computed;
 use isa::zbb::Zbb;
 
 // Opcodes.
@@ -240,10 +241,10 @@ fn other(w: u32, next: u64) -> Effect
     }
 }
 
-// What the instruction of the word w at pc does; next is the address after it.
+// What the base ISA's instruction of the word w at pc does; next is the address after it.
 fn effect32(x: &[u64; 32], w: u32, pc: u64, next: u64) -> Effect
     requires { ⌜ next ≡ W.add pc 4 ⌝ }
-    ensures { λ r. ⌜ S.Gives r (D.decode32 w) 4 pc (now (x .entry)) ⌝ }
+    ensures { λ r. ⌜ S.Gives r (D.base32 w) 4 pc (now (x .entry)) ⌝ }
 {
     let rd = w / 128 % 32;
     let a = read(x, w / 0x8000 % 32);
@@ -268,11 +269,26 @@ fn effect32(x: &[u64; 32], w: u32, pc: u64, next: u64) -> Effect
     }
 }
 
+// e, or Zbb's effect where the base ISA has none.
+fn or_zbb(x: &[u64; 32], w: u32, e: Effect) -> Effect
+    ensures { λ r. ⌜ r ≡ S.or-else e (S.zbb-effect w (now (x .entry))) ⌝ }
+{
+    match e {
+        Effect::Uncovered => {
+            let a = read(x, w / 0x8000 % 32);
+            let b = read(x, w / 0x10_0000 % 32);
+            put(w / 128 % 32, computed(w, a, b))
+        }
+        _ => e,
+    }
+}
+
 // The instruction of the word w at pc.
 pub fn step32(x: &mut [u64; 32], w: u32, pc: u64) -> Flow
     ensures { λ r. ⌜ S.Does (X.exec (D.decode32 w) 4 pc (now (x .entry))) r (now (x .exit)) ⌝ }
 {
     let next = std::num::wrapping_add_u64(pc, 4);
     let e = effect32(x, w, pc, next);
+    let e = or_zbb(x, w, e);
     apply(x, e, next)
 }

@@ -1,4 +1,5 @@
-// RV64I and M by the RISC-V Unprivileged ISA: decoding, and what one instruction does.
+// RV64I, M and Zbb by the RISC-V Unprivileged ISA: decoding, and what one instruction does.
 pub mod alu;
 pub mod decode;
 pub mod execute;
+pub mod zbb;
