@@ -47,6 +47,8 @@ exec-same : (i : Instr) (n pc : ℕ) (x : List ℕ) → exec i n pc (set x 0 0) 
 unfolding exec
 exec-same (Instr.Op k d a b) n pc x = rw (read-same x a, read-same x b, write-same)
 exec-same (Instr.OpImm k d a c) n pc x = rw (read-same x a, write-same)
+exec-same (Instr.Zbb k d a b) n pc x = rw (read-same x a, read-same x b, write-same)
+exec-same (Instr.ZbbImm k d a c) n pc x = rw (read-same x a, write-same)
 exec-same (Instr.Lui d c) n pc x = rw write-same
 exec-same (Instr.Auipc d c) n pc x = rw write-same
 exec-same (Instr.Jal d c) n pc x = rw write-same

@@ -53,6 +53,8 @@ module _ (h : Hart) (go : ℕ → Hart → Ran) (p : (size : ℕ) (h : Hart) →
   by-first Fetched.Missing = refl
   by-first (Fetched.Found (Instr.Op k rd rs1 rs2) size) = went size _
   by-first (Fetched.Found (Instr.OpImm k rd rs1 imm) size) = went size _
+  by-first (Fetched.Found (Instr.Zbb k rd rs1 rs2) size) = went size _
+  by-first (Fetched.Found (Instr.ZbbImm k rd rs1 imm) size) = went size _
   by-first (Fetched.Found (Instr.Lui rd imm) size) = went size _
   by-first (Fetched.Found (Instr.Auipc rd imm) size) = went size _
   by-first (Fetched.Found (Instr.Jal rd imm) size) = refl
