@@ -1,2 +1,3 @@
 pub mod Words
 pub mod Emission
+pub mod Parts
