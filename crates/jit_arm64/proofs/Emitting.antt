@@ -15,14 +15,13 @@ use Rattle.a64_emitter.proofs.Emission.{constant-length, movk-none, emitted-all
 use Rattle.isa.specs.declared.decode.Decoded32.{Decoded32}
 use Rattle.isa.specs.declared.zbb.Found.{Found}
 use Rattle.isa.specs.Zbb.{find}
-use Rattle.isa.proofs.ZbbRows.{opcode-of}
-use Rattle.emit_native.specs.declared.EmitFlow.the-variants.{Terminate}
+use Rattle.emit_native.specs.declared.EmitFlow.the-variants.{Terminate, None}
 use Rattle.emit_native.specs.declared.Emitted.{Emitted}
 use Rattle.emit_native.specs.declared.Host.{Host}
 use Rattle.isa.specs.Isa.{OPCODE-LOAD, OPCODE-STORE, OPCODE-LOAD-FP, OPCODE-STORE-FP, OPCODE-SYSTEM, OPCODE-AMO, F3-LB, F3-LH, F3-LW, F3-LD, F3-LBU, F3-LHU, F3-LWU, F3-SB, F3-SH, F3-SW, F3-SD}
 use Rattle.isa.specs.Decode.{decode32, c-op, c-funct3, imm-i, imm-s}
 use Rattle.a64_emitter.specs.Writers.{add-x, ldr-x, str-x, mov-x, sub-sp-imm, add-sp-imm, blr, ret}
-use Rattle.emit_native.specs.Calls.{Call, emit, mov-imm64, load, product, call-words, groups, words-in, words, if-not-0, Emission, none}
+use Rattle.emit_native.specs.Calls.{Call, emit, mov-imm64, load, product, call-words, groups, words-in, words, if-not-0, store-rd, Emission, none}
 use Rattle.emit_native.specs.Parts.{Emits}
 use Rattle.instr16.specs.Instr16.{emit-native-instr16, quadrant-0, quadrant-2}
 use Rattle.instr32.specs.Instr32.{emit-native-instr}
@@ -34,6 +33,7 @@ use Rattle.zbb.specs.Emission.{emission}
 use Rattle.zbb.proofs.Size.{zbb-size}
 use Rattle.jit_arm64.specs.Block.{is-32, emit-native, zbb-of, zbb-first, emit-inline, emit-term-helper}
 use Rattle.jit_arm64.specs.Parts.{Compiled}
+use Rattle.jit_arm64.proofs.Refused.{rust-helps-none}
 
 -- ---- words after others
 
@@ -69,11 +69,17 @@ by-zbb P (Found.Register z) instr e is other = is (λ q. let y : _≡_ {A = ℕ}
 by-zbb P (Found.Number z n) instr e is other = is (λ q. let y : _≡_ {A = ℕ} 0 1 = cc in omega arith)
 by-zbb P (Found.Unary z) instr e is other = is (λ q. let y : _≡_ {A = ℕ} 0 1 = cc in omega arith)
 
--- none is a helper's
-no-helper : (h : Host) (pc instr k : ℕ) → is-32 instr ≡ true → (find instr ≡ Found.Nothing → ⊥) → emit-term-helper h pc instr k ≡ none []
-unfolding emit-term-helper emit-native-term-helper32 opcode-helper
-no-helper h pc instr k t f =
-    opcode-of instr (emit-term-helper h pc instr k ≡ none []) (λ e. rw (t, e)) (λ e. rw (t, e)) (λ e. rw (t, e)) (λ e. rw (t, e)) f
+-- what Zbb's emitter answers says which
+pub zbb-flow : (f : Found) (instr : ℕ) → emission f instr .flow ≡ None → f ≡ Found.Nothing
+unfolding emission store-rd
+zbb-flow Found.Nothing instr e = refl
+zbb-flow (Found.Register z) instr e = let y : _≡_ {A = ℕ} 0 1 = cc in absurd (omega arith)
+zbb-flow (Found.Number z n) instr e = let y : _≡_ {A = ℕ} 0 1 = cc in absurd (omega arith)
+zbb-flow (Found.Unary z) instr e = let y : _≡_ {A = ℕ} 0 1 = cc in absurd (omega arith)
+
+pub zbb-refuses : (f : Found) (instr : ℕ) → f ≡ Found.Nothing → emission f instr .flow ≡ None
+unfolding emission
+zbb-refuses f instr e = rw e
 
 -- ---- the emitters by the width
 
@@ -273,7 +279,7 @@ module _ (slot-offset : ℕ) where
   unfolding emit-inline zbb-of zbb-first
   inline-apart h pc instr k b =
       by (is-32 instr)
-      (λ t. rw t (by-zbb (λ (e : Emission). Apart e (emit-term-helper h pc instr k)) (find instr) instr _ (λ f. inl (no-helper h pc instr k t f)) (λ f. native-apart h pc instr k b)))
+      (λ t. rw t (by-zbb (λ (e : Emission). Apart e (emit-term-helper h pc instr k)) (find instr) instr _ (λ f. inl (unfold emit-term-helper in (rw t (rust-helps-none h pc instr k f)))) (λ f. native-apart h pc instr k b)))
       (λ t. rw t (native-apart h pc instr k b))
 
   -- from a new emitter

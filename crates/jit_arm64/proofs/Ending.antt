@@ -10,7 +10,7 @@ use Rattle.a64_emitter.specs.Parts.{emitted-if, constant-if, in-turn}
 use Rattle.a64_emitter.proofs.Emission.{in-turn-fits, still-held}
 use Rattle.a64_emitter.specs.Writers.{ret}
 use Rattle.emit_native.specs.declared.Host.{Host}
-use Rattle.emit_native.specs.Calls.{Call, emit, mov-imm64, words-in, words}
+use Rattle.emit_native.specs.Calls.{Call, emit, mov-imm64, product, words-in, words}
 use Rattle.emit_native.proofs.Size.{size, size-append, size-le}
 use Rattle.jit_arm64.specs.declared.block.Stop.{Stop}
 use Rattle.jit_arm64.specs.declared.block.Stop.the-variants.{Limit, Ended, Helper, Uncovered, NotFetched}
@@ -55,11 +55,11 @@ module _ (slot-offset : ℕ) where
 
 -- and after the words of the instructions
 pub closed : {h : Host} {guest : List ℕ} {start limit : ℕ} {l : List ℕ} {pc m : ℕ} {r : Walked} {ws : List ℕ} → length l ≡ m
-    → Walks (h .«slot_offset») start (fence-walk max-instrs h guest start limit) (fence max-instrs h guest start limit) l r → pc ≡ add start (r .i)
+    → Walks (h .«slot_offset») start (fence-walk product max-instrs h guest start limit) (fence product max-instrs h guest start limit) l r → pc ≡ add start (r .i)
     → ws ≡ in-turn m (take (r .len) l) (ends (h .«slot_offset») (r .stop) pc (r .n)) → BlockOf h guest start limit ws r
 closed {h} {guest} {start} {limit} {l} {pc} {m} {r} {ws} long v at e =
     let slot-offset = h .«slot_offset» in
-    let w = fence-walk max-instrs h guest start limit in
+    let w = fence-walk product max-instrs h guest start limit in
     let cs = end-calls (r .stop) pc (r .n) in
     let t : cs ≡ end-calls (w .stop) (w .pc) (w .count) = rw (at, v .pc, v .stop, v .count) in
     let room = v .room in

@@ -20,6 +20,10 @@ goes-on Continue a b = refl
 goes-on Terminate a b = absurd (miss (0 ∷ 2 ∷ []) 1 tt b)
 goes-on None a b = absurd (miss (0 ∷ 1 ∷ []) 2 tt a)
 
+-- not None
+pub not-none : (f : EmitFlow) → OneOf (0 ∷ 1 ∷ []) (tagOf EmitFlows.the-type f) → f ≡ None → ⊥
+not-none f a e = miss (0 ∷ 1 ∷ []) 2 tt (rw e at a)
+
 -- not Terminate: a helper's emitter that takes the instruction not
 pub not-taken : (f : EmitFlow) → OneOf (0 ∷ 2 ∷ []) (tagOf EmitFlows.the-type f) → (helped-count f ≡ 0) × (helped-stop f ≡ Uncovered)
 unfolding helped-count helped-stop

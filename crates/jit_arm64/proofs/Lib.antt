@@ -3,5 +3,6 @@ pub mod Ending
 pub mod Fetching
 pub mod Flows
 pub mod Refusals
+pub mod Refused
 pub mod Fences
 pub mod Walking

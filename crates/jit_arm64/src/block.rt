@@ -1,7 +1,7 @@
 // `compile_native_block`: limit, alignment and fetch around the emitters. FENCE.I ends a block (document 02, No. 3).
 ghost use mathlib.Core.Path.{_≡_};
 ghost use mathlib.Core.List.{_++_};
-ghost use Prim.Native.Nat.{ℕ, _+_, _<_, _≤_, min};
+ghost use Prim.Native.Nat.{_%_, ℕ, _+_, _<_, _≤_, min};
 ghost use mathlib.Core.Bool.{true, false};
 ghost use lib.ListN.{length};
 ghost use Rattle.rules.specs.Limits.{inline-words, end-words, max-instrs, short-words, max-words, max-slot-offset};
@@ -62,11 +62,13 @@ pub struct NativeBlock {
 fn may_be_zbb(instr: u32) -> bool
     ensures { λ r. ⌜ (r ≡ false → find instr ≡ Found.Nothing) ⌝ }
 {
-    let opcode = instr % 128;
-    opcode == isa::OPCODE_OP
-        || opcode == isa::OPCODE_OP_IMM
-        || opcode == isa::OPCODE_OP_32
-        || opcode == isa::OPCODE_OP_IMM_32
+    match instr % 128 {
+        isa::OPCODE_OP => true,
+        isa::OPCODE_OP_IMM => true,
+        isa::OPCODE_OP_32 => true,
+        isa::OPCODE_OP_IMM_32 => true,
+        _ => false,
+    }
 }
 
 // The inline words of an instruction of 32 bits: Zbb first, and the Rust's emitter after it.

@@ -1,6 +1,11 @@
+use mathlib.Core.Path.{_∙_}
 use native.Mathlib.Omega.{arith}
 use borrow.Author.Needs.{needs}
-use Rattle.jit_arm64.proofs.Emitting.{native16, native32, compiled}
+use Rattle.isa.specs.Zbb.{find}
+use Rattle.isa.proofs.ZbbRows.{is-nothing}
+use Rattle.jit_arm64.proofs.Emitting.{inline16, inline32, compiled}
+use Rattle.jit_arm64.proofs.Flows.{not-none}
+use Rattle.jit_arm64.proofs.Refused.{rust-refuses}
 use Rattle.jit_arm64.proofs.block.emit_native.Statement.{statement}
 use Rattle.jit_arm64.proofs.block.emit_native.Tie as tie
 
@@ -10,14 +15,29 @@ returns c =
     let a = s .args in
     let w = c .before .before .before .if1 .taken in
     let n = s .pre .1 w in
-    compiled (a .host .«slot_offset») (a .host) (a .pc) (a .instr) (native16 (a .host) (a .pc) (a .instr) _ (omega arith) w) (c .before .before .new .ensures _) (c .emit-native-instr16 .ensures)
+    compiled (a .host .«slot_offset») (a .host) (a .pc) (a .instr) (inline16 (a .host) (a .pc) (a .instr) _ (omega arith) w) (c .before .before .new .ensures _) (c .emit-native-instr16 .ensures)
 
-returns-2 : tie.Need-returns-2
-returns-2 c =
-    let s = c .before .before .before .before .before in
+-- the Rust refused, by an opcode that is none of Zbb's
+returns-3 : tie.Need-returns-3
+returns-3 c =
+    let s = c .before .before .before .before .before .before .before .before .before in
     let a = s .args in
-    let w = c .before .before .before .before .if1 .left in
-    compiled (a .host .«slot_offset») (a .host) (a .pc) (a .instr) (native32 (a .host) (a .pc) (a .instr) _ (c .before .before .before .decode32 .ensures) (omega arith)) (c .before .before .new2 .ensures _) (c .emit-native-instr .ensures)
+    let w = c .before .before .before .before .before .before .before .before .if1 .left in
+    compiled (a .host .«slot_offset») (a .host) (a .pc) (a .instr)
+    (inline32 (a .host) (a .pc) (a .instr) _ (c .before .before .before .before .before .before .before .decode32 .ensures) (omega arith) (c .before .may-be-zbb .ensures (c .if2 .left)))
+    (c .before .before .before .before .before .before .new2 .ensures _) (c .before .before .before .before .emit-native-instr .ensures)
+
+-- it did not refuse, so that this is no Zbb instruction
+returns-4 : tie.Need-returns-4
+returns-4 c =
+    let s = c .before .before .before .before .before .before in
+    let a = s .args in
+    let w = c .before .before .before .before .before .if1 .left in
+    let e = c .before .emit-native-instr .ensures in
+    let d = c .before .before .before .before .decode32 .ensures in
+    let n = is-nothing (find (a .instr)) (λ f. not-none _ (c .match .keys2) (e .flow ∙ rw d (rust-refuses (a .pc) (a .instr) (omega arith) f))) in
+    compiled (a .host .«slot_offset») (a .host) (a .pc) (a .instr) (inline32 (a .host) (a .pc) (a .instr) _ d (omega arith) n)
+    (c .before .before .before .new2 .ensures _) e
 
 pub emit-native-spec : {M : Type 1} → statement M
 emit-native-spec =
@@ -30,4 +50,9 @@ emit-native-spec =
     (λ c κs. search needs)
     (λ c κs. search needs)
     (λ c κs. search needs)
-    returns-2)
+    (λ c. search needs)
+    (λ c κs. search needs)
+    (λ c κs. search needs)
+    (λ c. search needs)
+    returns-3
+    returns-4)
