@@ -33,7 +33,7 @@ module _ (slot-offset : ℕ) where
       let cs : List Call = mov-imm64 0 pc ∷ [] in
       omega (arith, size-append slot-offset cs (return-calls count), size-le slot-offset cs, return-size count few)
 
-  end-size : (why : Stop) (pc count : ℕ) → count ≤ max-instrs → size slot-offset (end-calls why pc count) ≤ end-room why
+  pub end-size : (why : Stop) (pc count : ℕ) → count ≤ max-instrs → size slot-offset (end-calls why pc count) ≤ end-room why
   unfolding end-calls end-room flatten
   end-size Helper pc count few = omega arith
   end-size Ended pc count few = return-size count few

@@ -6,6 +6,7 @@ pub mod Moves
 pub mod Remainders
 pub mod Alus
 pub mod Instrs
+pub mod Zbbs
 pub mod Agree32
 pub mod Agree16
 pub mod Fences
@@ -16,6 +17,8 @@ pub mod Calling
 pub mod Entering
 pub mod Whole
 pub mod Called
+pub mod RustWalks
+pub mod Sizes
 pub mod Examples
 pub mod Witness
 pub mod Loads

@@ -8,7 +8,7 @@ use Prim.Native.Nat.{ℕ, _-_, _%_, _^_, _≤_, _<_}
 use native.Mathlib.Omega.{arith}
 use lib.Dec.{eqb, ltb}
 use lib.ListN.{length, take, drop}
-use borrow.Author.Tests.{eqb-true, eqb-false, ltb-false}
+use borrow.Author.Tests.{eqb-true, eqb-false, ltb-true, ltb-false}
 use Rattle.rules.specs.Limits.{max-instrs, max-slot-offset}
 use Rattle.le.specs.Le.{Bytes}
 use Rattle.emit_native.specs.declared.Host.{Host}
@@ -23,11 +23,14 @@ use Rattle.jit_arm64.proofs.Refusals.{first, refuses}
 use Rattle.jit_arm64.proofs.Fences.{no-block-with-fence}
 use Rattle.translation.specs.Demand3.{HelperFree, Demand3}
 use Rattle.translation.specs.HelperBlock.{HelperEnded, HelperBlock}
-use Rattle.translation.specs.RustBlock.{RustBlock}
+use Rattle.translation.specs.RustBlock.{ZbbFree, RustBlock}
+use Rattle.translation.specs.Size.{most-bytes, Size}
 use Rattle.translation.proofs.Fences.{whole-ends}
 use Rattle.translation.proofs.Whole.{demand3}
 use Rattle.translation.proofs.Called.{helper-block}
 use Rattle.translation.proofs.Loads.{as-rust}
+use Rattle.translation.proofs.RustWalks.{rust-walk}
+use Rattle.translation.proofs.Sizes.{inline-few, helper-few, block-few}
 
 offset-by : (o : ℕ) (a b : Bool) → eqb (o % 8) 0 ≡ a → ltb max-slot-offset o ≡ b → (not a || b) ≡ false → (o % 8 ≡ 0) × (o ≤ max-slot-offset)
 offset-by o true false p q h = (eqb-true (o % 8) 0 p, ltb-false max-slot-offset o q)
@@ -48,6 +51,16 @@ unfolding no-block
 some-refusal guest pc limit = by (eqb limit 0) (eqb (pc % 2) 1) (is-missing (fetch pc guest 0))
   where
     by : (a b c : Bool) → 1 ≤ cond a 2 (cond b 3 (cond c 4 5))
+    by true b c = omega arith
+    by false true c = omega arith
+    by false false true = omega arith
+    by false false false = omega arith
+
+few-refusals : (guest : List ℕ) (pc limit : ℕ) → no-block guest pc limit ≤ 5
+unfolding no-block
+few-refusals guest pc limit = by (eqb limit 0) (eqb (pc % 2) 1) (is-missing (fetch pc guest 0))
+  where
+    by : (a b c : Bool) → cond a 2 (cond b 3 (cond c 4 5)) ≤ 5
     by true b c = omega arith
     by false true c = omega arith
     by false false true = omega arith
@@ -87,6 +100,14 @@ module _ (h : Host) (pc limit : ℕ) (guest out : List ℕ) (hb : Bytes guest) (
   block-is : compile-native-block product max-instrs h guest pc (limit-at f limit)
       ≡ cond (refuses product h guest pc limit) none (some (block-of product h W))
   block-is = no-block-with-fence product (max-instrs - 1) h guest pc limit hp
+
+  counts-some : compile-native-block product max-instrs h guest pc (limit-at f limit) ≡ some (block-of product h W) → eqb (W .count) 0 ≡ false
+  unfolding compile-native-block
+  counts-some q = some-by (eqb (W .count) 0) q
+    where
+      some-by : (b : Bool) → cond b none (some (block-of product h W)) ≡ some (block-of product h W) → b ≡ false
+      some-by true y = let z : _≡_ {A = ℕ} 0 1 = cc in absurd (omega arith)
+      some-by false y = refl
 
   -- no refusal's
   abbrev Unrefused : Result → Type 0
@@ -131,6 +152,29 @@ module _ (h : Host) (pc limit : ℕ) (guest out : List ℕ) (hb : Bytes guest) (
     code : take (r .answer .length) (r .output) ≡ block-of product h W .code
     code = rw r-is (front (block-of product h W .code) (drop (length (block-of product h W .code)) out))
 
+  -- how long the block is, and that so much output is enough
+  abbrev Bounded : Result → Type 0
+  Bounded r = (r .answer .length ≤ most-bytes limit) × (most-bytes limit ≤ length out → r .answer .refusal ≡ 6 → ⊥)
+
+  bounded : (a t s : Bool) → bad-slot-offset (h .«slot_offset») ≡ a → refuses product h guest pc limit ≡ t
+      → ltb (length out) (length (block-of product h W .code)) ≡ s → Bounded (translate h guest pc limit out)
+  unfolding translate of-block
+  bounded true t s p q r = rw p (omega arith, λ l e. omega arith)
+  bounded false true s p q r = rw (p, block-is, q) (omega arith, λ l e. omega (arith, e, few-refusals guest pc limit))
+  bounded false false true p q r =
+      rw (p, block-is, q, r) (omega arith, λ l e. omega (arith, l, ltb-true (length out) (length (block-of product h W .code)) r, block-few h guest pc limit))
+  bounded false false false p q r = rw (p, block-is, q, r) (block-few h guest pc limit, λ l e. omega arith)
+
+  pub translated-size : (r : Result) → r ≡ translate h guest pc limit out → Size h limit (length out) (r .answer .refusal) (r .answer .length)
+  translated-size r e =
+      let b = bounded _ _ _ refl refl refl in
+      record {
+        inline = λ pc instr. omega (arith, inline-few h pc instr);
+        helper = λ pc instr n l. omega (arith, helper-few h pc instr n l);
+        within = rw e (b .0);
+        suffices = rw e (b .1);
+      }
+
   -- demand 3 for what translation answers, where the end kind is plain or drop
   pub translated : (r : Result) → r ≡ translate h guest pc limit out → HelperFree (r .answer .end)
       → Demand3 guest pc limit (h .«ignore_ebreak») (h .«slot_offset») (take (r .answer .length) (r .output)) (r .answer .count)
@@ -150,14 +194,16 @@ module _ (h : Host) (pc limit : ℕ) (guest out : List ℕ) (hb : Bytes guest) (
 
   -- demand 2
   pub translated-rust : h .«memory_helper» < 2 ^ 64 → h .helper32 < 2 ^ 64 → h .helper16 < 2 ^ 64 → length guest < 2 ^ 64
-      → (r : Result) → r ≡ translate h guest pc limit out → r .answer .refusal ≡ 0
+      → (r : Result) → r ≡ translate h guest pc limit out → r .answer .refusal ≡ 0 → ZbbFree guest pc (r .answer .count) 0
       → RustBlock h guest pc limit (take (r .answer .length) (r .output)) (r .answer .count)
-  translated-rust hm h32 h16 hl r e k =
+  translated-rust hm h32 h16 hl r e k free =
       let z : Unrefused r = λ n l q. omega (arith, ap (λ (r : Result). r .answer .refusal) q) in
       let o = offset r e z in
+      let c : r .answer .count ≡ W .count = ap (λ (r : Result). r .answer .count) (r-is r e z) in
+      let w : fence-walk rust max-instrs h guest pc limit ≡ W = rust-walk max-instrs h guest pc limit (rw c at free) in
       record {
         native = block-of rust h W;
-        is = no-block-with-fence rust (max-instrs - 1) h guest pc limit hp ∙ rw (a r e z .block) refl;
-        counts = sym (ap (λ (r : Result). r .answer .count) (r-is r e z));
+        is = unfold compile-native-block in (rw (w, counts-some (block-is ∙ rw (a r e z .block) refl)) refl);
+        counts = sym c;
         same = code r e z ∙ ap bytes (as-rust h hm h32 h16 pc limit guest hb hl hp (even r e z) (o .1) (o .0));
       }

@@ -78,7 +78,7 @@ unfolding instr-walk
 instr-most h none start n i k rest l = omega arith
 instr-most h (some instr) start n i k rest l = step-most _ _ _ (size-of instr) start n i k rest l
 
-walk-most : (h : Host) (guest : List ℕ) (start k n i : ℕ) → walk product h guest start k n i .count ≤ n + k
+pub walk-most : (h : Host) (guest : List ℕ) (start k n i : ℕ) → walk product h guest start k n i .count ≤ n + k
 unfolding walk
 walk-most h guest start zero n i = omega arith
 walk-most h guest start (suc k) n i = instr-most h _ start n i k (walk product h guest start k) (λ j. walk-most h guest start k (suc n) j)

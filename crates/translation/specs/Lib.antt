@@ -1,3 +1,4 @@
 pub mod Demand3
 pub mod HelperBlock
 pub mod RustBlock
+pub mod Size

@@ -1,7 +1,7 @@
 use borrow.Author.Needs.{needs}
 use native.Mathlib.Omega.{arith}
 use Rattle.le.specs.Le.{Bytes}
-use Rattle.translation.proofs.Translated.{translated, translated-helper, translated-rust}
+use Rattle.translation.proofs.Translated.{translated, translated-helper, translated-rust, translated-size}
 use Rattle.translation.proofs.translate.Statement.{statement}
 use Rattle.translation.proofs.translate.Tie as tie
 
@@ -17,7 +17,10 @@ returns c =
         λ p. translated (a .host) (a .pc) (a .limit) (a .guest .now) (a .output .now) b (search needs) _ r p,
         (
           λ p. translated-helper (a .host) (a .pc) (a .limit) (a .guest .now) (a .output .now) b (search needs) (search needs) (search needs) (search needs) (search needs) _ r p,
-          λ p. translated-rust (a .host) (a .pc) (a .limit) (a .guest .now) (a .output .now) b (search needs) (search needs) (search needs) (search needs) (search needs) _ r p,
+          (
+            λ p free. translated-rust (a .host) (a .pc) (a .limit) (a .guest .now) (a .output .now) b (search needs) (search needs) (search needs) (search needs) (search needs) _ r p free,
+            translated-size (a .host) (a .pc) (a .limit) (a .guest .now) (a .output .now) b (search needs) _ r,
+          ),
         ),
       ),
     )
