@@ -9,6 +9,7 @@ ghost use Rattle.rv64.specs.Parts as S;
 use crate::alu::sextw;
 use crate::execute::Computed;
 
+// x where b, else y.
 fn pick(b: bool, x: u64, y: u64) -> u64
     ensures { λ r. ⌜ r ≡ cond b x y ⌝ }
 {

@@ -1,17 +1,22 @@
 -- Assumes nothing.
-use Prim.Native.Nat.{ℕ, _+_, _/_}
+use mathlib.Core.Path.{_≡_, sym}
+use Prim.Native.Nat.{ℕ, suc, _%_}
+use native.Mathlib.Nat.{mod-eq-of-lt}
 use native.Mathlib.Omega.{arith}
-use lib.Bits.{bitAnd, bitOr, and-le-r}
+use lib.Bits.{bitAnd, and-le-r}
 use Rattle.word.proofs.Orc.{picked-8}
 use Rattle.word.proofs.bytes.combined.Statement.{statement}
 use Rattle.word.proofs.bytes.combined.Tie as tie
 
+-- a number that is masked is no more than the mask
+capped : (n m : ℕ) → bitAnd n m ≡ bitAnd n m % suc m
+capped n m = let h = and-le-r n m in sym (mod-eq-of-lt (omega arith))
+
 add-t : tie.Need-add-t
-add-t c = record { fits = omega (arith, and-le-r (c .args .x) 0x7F7F7F7F7F7F7F7F) }
+add-t c = record { fits = rw capped (omega arith) }
 
 mul-result : tie.Need-mul-result
-mul-result c =
-    record { fits = omega (arith, and-le-r (bitOr (bitAnd (c .args .x) 0x7F7F7F7F7F7F7F7F + 0x7F7F7F7F7F7F7F7F) (c .args .x) / 128) 0x0101010101010101) }
+mul-result c = record { fits = rw capped (omega arith) }
 
 returns : tie.Need-returns
 returns c = picked-8 (c .args .x)
