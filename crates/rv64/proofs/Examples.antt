@@ -33,7 +33,8 @@ decoded32 : (D.decode32 0x00000013 ≡ Instr.OpImm Alu.Add 0 0 0)
 unfolding D.decode32 D.zbb-or Z.find Z.registers Z.word-shift-of Z.word-shifts Z.unary-of Z.unaries Z.shift-of Z.shifts D.base32 D.by-class class-of D.op-imm D.imms D.shift-imm D.shifts D.branch D.branches D.misc-mem D.fences D.below
 decoded32 = (refl, refl, refl, refl, refl, refl, refl, refl, refl, refl, refl, refl, refl)
 
--- ---- Zbb: ANDN, ZEXT.H, RORI by 63, CLZW, RORIW by 31; and uncovered: ZEXT.H with rs2 1, RORIW with bit 25, CLZ's funct12 0x603
+-- ---- Zbb: ANDN, ZEXT.H, RORI by 63, CLZW, RORIW by 31; uncovered: ZEXT.H with rs2 1, RORIW with bit 25, CLZ with
+-- funct12 0x603
 decoded-zbb : (D.decode32 0x40C5F533 ≡ Instr.Zbb Zbb.Andn 10 11 12)
     × (D.decode32 0x0805C53B ≡ Instr.ZbbImm Zbb.ZextH 10 11 0)
     × (D.decode32 0x63F5D513 ≡ Instr.ZbbImm Zbb.Ror 10 11 63)
