@@ -20,7 +20,7 @@ operand w = load 9 (rs1 w) ∷ []
 abbrev pub around : List Call → List Call → ℕ → Emission
 around loads body w = calls-first loads (then-store-rd (rd w) (continue body))
 
--- the answer r, with the array l′, of an emitter em that holds in l the words of calls after others: those of the store of rd follow
+-- an emitter em holds in l the words of calls after others; it answers r with the array l′: the store of rd follows
 abbrev pub Finishes : ℕ → InstrEmitter → List ℕ → ℕ → Emitted → List ℕ → Type 0
 Finishes slot-offset em l w r l′ =
     (h : List ℕ) (cs : List Call) → held em l ≡ emitted-all h (groups slot-offset cs) → Emits slot-offset h (then-store-rd (rd w) (continue cs)) r l′

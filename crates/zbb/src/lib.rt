@@ -1,4 +1,4 @@
-// `emit_native_zbb`: the words of Zbb instructions (document 02, No. 7).
+// `emit_native_zbb`: the words of Zbb instructions (document 02, No. 7). Those with rs1 and rs2 stand here.
 ghost use mathlib.Core.List.{[], _∷_};
 ghost use Prim.Native.Nat.{_<_, _≤_};
 ghost use Rattle.rules.specs.Limits.{max-slot-offset};
@@ -32,7 +32,7 @@ const C_GE: u8 = 0xA;
 
 const C_LT: u8 = 0xB;
 
-// One word.
+// ANDN, ORN, XNOR, ROR: a body of one word.
 fn one(
     em: InstrEmitter,
     words: &mut [u32; INSTR_WORDS],
@@ -47,7 +47,7 @@ fn one(
     finish(em, words, slot_offset, instr)
 }
 
-// Two words.
+// ROL and what is compared: a body of two words.
 fn two(
     em: InstrEmitter,
     words: &mut [u32; INSTR_WORDS],
@@ -64,7 +64,7 @@ fn two(
     finish(em, words, slot_offset, instr)
 }
 
-// MAX, MAXU, MIN, MINU.
+// MAX, MAXU, MIN, MINU, by the condition where X9 is picked.
 fn picked(
     em: InstrEmitter,
     words: &mut [u32; INSTR_WORDS],
@@ -79,7 +79,7 @@ fn picked(
     two(em, words, slot_offset, instr, A64Emitter::cmp_x(9, 10), w)
 }
 
-// ROLW, RORW.
+// ROLW, RORW, by the shift of the low bits of X10 and the shift back.
 fn rotated(
     em: InstrEmitter,
     words: &mut [u32; INSTR_WORDS],

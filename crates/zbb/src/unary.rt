@@ -24,7 +24,7 @@ use a64_emitter::InstrEmitter;
 use emit_native::Emitted;
 use rules::INSTR_WORDS;
 
-// One word.
+// CLZ, REV8: a body of one word.
 fn one(
     em: InstrEmitter,
     words: &mut [u32; INSTR_WORDS],
@@ -91,7 +91,7 @@ fn cpopw(em: InstrEmitter, words: &mut [u32; INSTR_WORDS], slot_offset: u64, ins
     finish(emit_ones(em, words), words, slot_offset, instr)
 }
 
-// SEXT.B, SEXT.H.
+// SEXT.B, SEXT.H, by how many bits stand above.
 fn extended(
     em: InstrEmitter,
     words: &mut [u32; INSTR_WORDS],
