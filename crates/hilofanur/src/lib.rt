@@ -3,7 +3,8 @@ ghost use mathlib.Core.Path.{_≡_};
 ghost use lib.ListN.{take};
 ghost use Rattle.translation.specs.Demand3.{HelperFree, Demand3};
 ghost use Rattle.translation.specs.HelperBlock.{HelperEnded, HelperBlock};
-ghost use Rattle.translation.specs.RustBlock.{RustBlock};
+ghost use Rattle.translation.specs.RustBlock.{ZbbFree, RustBlock};
+ghost use Rattle.translation.specs.Size.{Size};
 ghost use Rattle.listing.specs.Listing.{Lists};
 ghost use Rattle.block_log.specs.Log.{emptied};
 ghost use Rattle.block_index.specs.History.{Looks, Places};
@@ -84,7 +85,8 @@ pub extern "C" fn hilofanur_translate(
     ensures { λ r. ⌜ Answers.translate-result r (now (output .exit)) ≡ Answers.translate (now (guest .entry)) pc limit (Answers.host «ignore_ebreak» «slot_offset» «memory_helper» helper32 helper16) (now (output .entry)) ⌝ }
     ensures { λ r. ⌜ (HelperFree (r .end) → Demand3 (now (guest .entry)) pc limit «ignore_ebreak» «slot_offset» (take (r .length) (now (output .exit))) (r .count)) ⌝ }
     ensures { λ r. ⌜ (HelperEnded (r .end) → HelperBlock (Answers.host «ignore_ebreak» «slot_offset» «memory_helper» helper32 helper16) (now (guest .entry)) pc limit (take (r .length) (now (output .exit))) (r .count)) ⌝ }
-    ensures { λ r. ⌜ (r .refusal ≡ 0 → RustBlock (Answers.host «ignore_ebreak» «slot_offset» «memory_helper» helper32 helper16) (now (guest .entry)) pc limit (take (r .length) (now (output .exit))) (r .count)) ⌝ }
+    ensures { λ r. ⌜ (r .refusal ≡ 0 → ZbbFree (now (guest .entry)) pc (r .count) 0 → RustBlock (Answers.host «ignore_ebreak» «slot_offset» «memory_helper» helper32 helper16) (now (guest .entry)) pc limit (take (r .length) (now (output .exit))) (r .count)) ⌝ }
+    ensures { λ r. ⌜ Size (Answers.host «ignore_ebreak» «slot_offset» «memory_helper» helper32 helper16) limit (length (now (output .entry))) (r .refusal) (r .length) ⌝ }
 {
     let host = Host {
         slot_offset,

@@ -61,10 +61,14 @@ module _ (h : Host) (guest : List ℕ) (start : ℕ) where
     instr-same (some instr) i free =
         zbb-same (emit-native h (add start i) instr) (emit-term-helper h (add start i) instr n) instr (size-of instr) i (zbb-of instr) free
 
-  pub walk-same : (k n i : ℕ) → ZbbFree guest start (walk product h guest start k n i .count - n) i → walk rust h guest start k n i ≡ walk product h guest start k n i
+  walk-same : (k n i : ℕ) → ZbbFree guest start (walk product h guest start k n i .count - n) i → walk rust h guest start k n i ≡ walk product h guest start k n i
   unfolding walk
   walk-same zero n i free = refl
   walk-same (suc k) n i free = instr-same k n (λ j. walk-same k (suc n) j) (fetch (add start i) guest i) i (λ m c. rw c at free)
+
+  -- from the start
+  start-same : (k : ℕ) → ZbbFree guest start (walk product h guest start k 0 0 .count) 0 → walk rust h guest start k 0 0 ≡ walk product h guest start k 0 0
+  start-same k free = let z : walk product h guest start k 0 0 .count - 0 ≡ walk product h guest start k 0 0 .count = omega arith in walk-same k 0 0 (rw z free)
 
   -- ---- a walk with a lower limit counts no more
 
@@ -98,6 +102,12 @@ module _ (h : Host) (guest : List ℕ) (start : ℕ) where
     or-within (some instr) b rest on e =
         by (is-fence-i instr) (λ t. let z : some (suc n) ≡ some m = rw t at e in let y : suc n ≡ m = cc in omega arith) (λ t. omega (arith, on (size-of instr) (rw t at e)))
 
+    or-above : (o : Option ℕ) (rest : ℕ → Option ℕ) → ((size : ℕ) → rest size ≡ some m → suc (suc n) ≤ m) → fence-or o n rest ≡ some m → suc n ≤ m
+    unfolding fence-or
+    or-above none rest on e = never m e
+    or-above (some instr) rest on e =
+        by (is-fence-i instr) (λ t. let z : some (suc n) ≡ some m = rw t at e in let y : suc n ≡ m = cc in omega arith) (λ t. omega (arith, on (size-of instr) (rw t at e)))
+
     or-fewer : (o : Option ℕ) (rest less : ℕ → Option ℕ) → ((size : ℕ) → rest size ≡ some m → less size ≡ some m) → fence-or o n rest ≡ some m → fence-or o n less ≡ some m
     unfolding fence-or
     or-fewer none rest less on e = e
@@ -112,14 +122,7 @@ module _ (h : Host) (guest : List ℕ) (start : ℕ) where
   above : (b n i m : ℕ) → to-fence guest start b n i ≡ some m → suc n ≤ m
   unfolding to-fence
   above zero n i m e = never m e
-  above (suc b) n i m e = or-above (fetch (add start i) guest i) e
-    where
-      or-above : (o : Option ℕ) → fence-or o n (λ (size : ℕ). to-fence guest start b (suc n) (i + size)) ≡ some m → suc n ≤ m
-      unfolding fence-or
-      or-above none q = never m q
-      or-above (some instr) q =
-          by (is-fence-i instr) (λ t. let z : some (suc n) ≡ some m = rw t at q in let y : suc n ≡ m = cc in omega arith)
-          (λ t. omega (arith, above b (suc n) (i + size-of instr) m (rw t at q)))
+  above (suc b) n i m e = or-above n m (fetch (add start i) guest i) _ (λ size q. above b (suc n) (i + size) m q) e
 
   fewer : (b a n i m : ℕ) → to-fence guest start b n i ≡ some m → m ≤ n + a → to-fence guest start a n i ≡ some m
   unfolding to-fence
@@ -136,24 +139,28 @@ module _ (most : ℕ) (h : Host) (guest : List ℕ) (start limit : ℕ) where
   abbrev Same : Type 0
   Same = fence-walk rust most h guest start limit ≡ fence-walk product most h guest start limit
 
+  fence-is : (d : Dialect) → fence d most h guest start limit ≡ to-fence guest start (whole d .count) 0 0
+  unfolding fence
+  fence-is d = refl
+
   -- there is none
   unfenced : fence product most h guest start limit ≡ none → ZbbFree guest start (fence-walk product most h guest start limit .count) 0 → Same
   unfolding fence limit-at whole-walk
   unfenced e free =
       let w : walk rust h guest start (min limit most) 0 0 ≡ walk product h guest start (min limit most) 0 0 =
-      walk-same h guest start (min limit most) 0 0 (rw e at free) in
+      start-same h guest start (min limit most) (rw e at free) in
       rw (w, e) w
 
   fenced : (m : ℕ) → fence product most h guest start limit ≡ some m → ZbbFree guest start (fence-walk product most h guest start limit .count) 0 → Same
   unfolding limit-at whole-walk
   fenced m e free =
-      let w : walk rust h guest start (min m most) 0 0 ≡ walk product h guest start (min m most) 0 0 = walk-same h guest start (min m most) 0 0 (rw e at free) in
+      let w : walk rust h guest start (min m most) 0 0 ≡ walk product h guest start (min m most) 0 0 = start-same h guest start (min m most) (rw e at free) in
       let n : walk product h guest start (min m most) 0 0 .count ≡ m = rw e at (whole-ends h guest start limit most m e .1) in
-      let p : m ≤ min limit most = omega (arith, within h guest start (whole product .count) 0 0 m (unfold fence in e), walk-most h guest start (min limit most) 0 0) in
+      let p : m ≤ min limit most = omega (arith, within h guest start (whole product .count) 0 0 m (sym (fence-is product) ∙ e), walk-most h guest start (min limit most) 0 0) in
       let r : m ≤ whole rust .count =
       omega (arith, walk-more h guest start rust (min m most) (min limit most) 0 0 (omega arith), ap (λ (x : Walk). x .count) w, n) in
       let f : fence rust most h guest start limit ≡ some m =
-      unfold fence in (fewer h guest start (whole product .count) (whole rust .count) 0 0 m e (omega arith)) in
+      fence-is rust ∙ fewer h guest start (whole product .count) (whole rust .count) 0 0 m (sym (fence-is product) ∙ e) (omega arith) in
       rw (f, e) w
 
   by-fence : (f : Option ℕ) → fence product most h guest start limit ≡ f → ZbbFree guest start (fence-walk product most h guest start limit .count) 0 → Same

@@ -109,6 +109,11 @@ module _ (h : Host) (pc limit : ℕ) (guest out : List ℕ) (hb : Bytes guest) (
       some-by true y = let z : _≡_ {A = ℕ} 0 1 = cc in absurd (omega arith)
       some-by false y = refl
 
+  rust-is : fence-walk rust max-instrs h guest pc limit ≡ W → eqb (W .count) 0 ≡ false
+      → compile-native-block rust max-instrs h guest pc (limit-at (fence rust max-instrs h guest pc limit) limit) ≡ some (block-of rust h W)
+  unfolding compile-native-block
+  rust-is w n = rw (w, n) refl
+
   -- no refusal's
   abbrev Unrefused : Result → Type 0
   Unrefused r = (n : ℕ) → 1 ≤ n → r ≡ refused n out → ⊥
@@ -203,7 +208,7 @@ module _ (h : Host) (pc limit : ℕ) (guest out : List ℕ) (hb : Bytes guest) (
       let w : fence-walk rust max-instrs h guest pc limit ≡ W = rust-walk max-instrs h guest pc limit (rw c at free) in
       record {
         native = block-of rust h W;
-        is = unfold compile-native-block in (rw (w, counts-some (block-is ∙ rw (a r e z .block) refl)) refl);
+        is = rust-is w (counts-some (block-is ∙ rw (a r e z .block) refl));
         counts = sym c;
         same = code r e z ∙ ap bytes (as-rust h hm h32 h16 pc limit guest hb hl hp (even r e z) (o .1) (o .0));
       }
