@@ -1,7 +1,7 @@
 //! A64 words, and questions to A64 run and A64 run from.
 
 use crate::case::{Case, SLOTS};
-use crate::forms::{encode, A64};
+use crate::forms::{encode, near_a64, A64};
 use crate::guest::Guests;
 use crate::values::{value, Pool};
 use crate::Random;
@@ -11,14 +11,18 @@ const LDR: usize = 0;
 const STR: usize = 1;
 const ADD_SP: usize = 18;
 const SUB_SP: usize = 19;
-const RET: usize = 23;
+const RET: usize = 29;
 /// The forms before BLR and RET.
-const STRAIGHT: usize = 22;
+const STRAIGHT: usize = 28;
 /// SP changes by 16.
 const SIXTEEN: u32 = 16 << 10;
 
-/// A word of one of the 24 forms. Most loads and stores go through X0 or SP and a small offset; most changes of SP are by 16.
+/// A word of one of the forms, now and then one next to them. Most loads and stores go through X0 or SP and a small
+/// offset; most changes of SP are by 16.
 fn word(random: &mut Random) -> u32 {
+    if random.below(256) == 0 {
+        return near_a64(random);
+    }
     let forms = if random.below(16) == 0 { A64.len() } else { STRAIGHT };
     let form = random.below(forms);
     let mut free = random.next() as u32;
@@ -103,7 +107,7 @@ impl A64Cases {
         A64Case { block, address, first, x, sp, nzcv: random.next(), budget, memory, base }
     }
 
-    /// Block bytes and the slot offset: a translation, words of the 24 forms, or any words.
+    /// Block bytes and the slot offset: a translation, words of the forms, or any words.
     fn block(
         &self,
         random: &mut Random,

@@ -175,6 +175,7 @@ fn draw_helpers(random: &mut Random) -> [u64; 3] {
 mod tests {
     use super::*;
     use crate::class::{first, Class};
+    use crate::zbb::{self, kinds};
 
     /// The classes of a question's instructions up to the first that is not Next, one beyond the limit at most;
     /// whether FENCE.I stands right after the last of them.
@@ -248,5 +249,43 @@ mod tests {
         }
         assert!(blocks / 10 < dropped && dropped < blocks / 6, "{dropped} of {blocks}");
         assert!(places.iter().all(|&number| number >= 20), "{places:?}");
+    }
+
+    /// Of the blocks that refusals 2, 4 and 5 leave, about one in three reaches Zbb; each of its instructions does, and it
+    /// stands where the list has it.
+    #[test]
+    fn zbb_in_every_place() {
+        let (guests, mut random) = (Guests::default(), Random(1));
+        let (mut blocks, mut places, mut met) = (0, [0; 9], [0; zbb::FORMS.len()]);
+        for _ in 0..40_000 {
+            let case = guests.case(&mut random);
+            let (classes, _) = walk(&case);
+            let limit = case.limit.min(64) as usize;
+            if limit == 0 || matches!(classes.first(), None | Some(Class::Uncovered)) {
+                continue;
+            }
+            blocks += 1;
+            let last = classes[classes.len() - 1];
+            let count = (classes.len() - (last == Class::Uncovered) as usize).min(limit);
+            let within = |count: usize| kinds(&case.guest, count as u32);
+            let (found, before) = (within(count), within(count - 1).len());
+            found.iter().for_each(|&kind| met[kind] += 1);
+            let (any, ends) = (!found.is_empty(), before < found.len());
+            let met = [
+                any,
+                any && !within(1).is_empty(),
+                ends && count == limit,
+                ends && count == 64,
+                ends && count < limit && last == Class::Next,
+                before > within(count.max(2) - 2).len() && last == Class::Helper,
+                before > within(count.max(2) - 2).len() && last == Class::FenceI,
+                ends && last == Class::Uncovered,
+                found.len() == 64,
+            ];
+            places.iter_mut().zip(met).for_each(|(place, met)| *place += met as usize);
+        }
+        assert!(blocks / 4 < places[0] && places[0] < blocks / 2, "{places:?} of {blocks}");
+        assert!(places.iter().all(|&number| number >= 20), "{places:?}");
+        assert!(met.iter().all(|&number| number >= 500), "{met:?}");
     }
 }

@@ -1,4 +1,6 @@
-//! What an instruction is to a block, by document 01's rules 2 to 4 and document 02's No. 3.
+//! What an instruction is to a block, by document 01's rules 2 to 4 and document 02's Nos. 3 and 7.
+
+use crate::zbb;
 
 #[derive(Clone, Copy, PartialEq, Eq, Debug)]
 pub enum Class {
@@ -61,8 +63,16 @@ pub fn class16(instr: u16, ignore_ebreak: bool) -> Class {
     }
 }
 
-/// Rules 2 to 4 for a 32-bit instruction.
+/// Rules 2 to 4 for a 32-bit instruction; Zbb's are inline.
 pub fn class32(instr: u32) -> Class {
+    match base32(instr) {
+        Class::Uncovered => inline(zbb::kind(instr).is_some()),
+        class => class,
+    }
+}
+
+/// Without Zbb, as the Rust has it.
+fn base32(instr: u32) -> Class {
     let funct3 = instr >> 12 & 7;
     let funct7 = instr >> 25;
     match instr & 0x7f {
@@ -126,7 +136,10 @@ mod tests {
         for form in forms::helper() {
             assert!(classes(form).iter().all(|&class| class == Class::Helper), "{form:x?}");
         }
-        for form in [&forms::LEFTOVER[..], &forms::UNCOVERED].concat() {
+        for form in zbb::forms() {
+            assert!(classes(form).iter().all(|&class| class == Class::Next), "{form:x?}");
+        }
+        for form in [&forms::LEFTOVER[..], &forms::UNCOVERED, &zbb::NEAR].concat() {
             assert!(classes(form).iter().all(|&class| class == Class::Uncovered), "{form:x?}");
         }
     }

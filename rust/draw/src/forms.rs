@@ -1,4 +1,6 @@
-//! Instruction forms: document 01's rules 2, 4 and 7 for RV64, its 24 forms for A64.
+//! Instruction forms: document 01's rules 2, 4 and 7 for RV64; for A64 its 24 forms and the six of document 02's No. 7.
+
+use crate::Random;
 
 /// The values of the fixed bits, and which bits are fixed.
 pub type Form = (u32, u32);
@@ -110,7 +112,7 @@ pub const LEFTOVER: [Form; 26] = [
     (0xfe00_0033, 0xfe00_007f),
     (0x4000_1033, 0xfe00_707f),
     (0x4000_2033, 0xfe00_707f),
-    (0x4000_7033, 0xfe00_707f),
+    (0x4000_3033, 0xfe00_707f),
     (0x0600_0033, 0xfe00_007f),
     (0x0000_203b, 0xfe00_707f),
     (0x0000_403b, 0xfe00_707f),
@@ -118,7 +120,7 @@ pub const LEFTOVER: [Form; 26] = [
     (0x0200_103b, 0xfe00_707f),
     (0x0200_303b, 0xfe00_707f),
     (0x4000_103b, 0xfe00_707f),
-    (0x0800_003b, 0xfe00_007f),
+    (0x0810_003b, 0xfe10_007f),
     (0x0400_1013, 0xfc00_707f),
     (0x4000_1013, 0xfc00_707f),
     (0x0400_5013, 0xfc00_707f),
@@ -178,13 +180,13 @@ pub const UNCOVERED: [Form; 40] = [
     (0x9002, 0xff83),
 ];
 
-/// All of the forms above.
+/// All of the forms above; Zbb's stand in [`crate::zbb`].
 pub fn all() -> Vec<Form> {
     [&inline()[..], &helper(), &LEFTOVER, &UNCOVERED].concat()
 }
 
-/// The 24 forms of A64. The last two, BLR and RET, end a run.
-pub const A64: [Form; 24] = [
+/// The 30 forms of A64. The last two, BLR and RET, end a run.
+pub const A64: [Form; 30] = [
     (0xF940_0000, 0xFFC0_0000), // LDR
     (0xF900_0000, 0xFFC0_0000), // STR
     (0x8B00_0000, 0xFFE0_FC00), // ADD
@@ -207,13 +209,28 @@ pub const A64: [Form; 24] = [
     (0xD100_03FF, 0xFFC0_03FF), // SUB SP
     (0xD280_0000, 0xFF80_0000), // MOVZ
     (0xF280_0000, 0xFF80_0000), // MOVK
+    (0x8A20_0000, 0xFFE0_FC00), // BIC
+    (0xAA20_0000, 0xFFE0_FC00), // ORN
+    (0xCA20_0000, 0xFFE0_FC00), // EON
+    (0x9AC0_2C00, 0xFFE0_FC00), // RORV
+    (0xDAC0_0C00, 0xFFFF_FC00), // REV
+    (0xDAC0_1000, 0xFFFF_FC00), // CLZ
     (0xD63F_0000, 0xFFFF_FC1F), // BLR
     (0xD65F_03C0, 0xFFFF_FFFF), // RET
 ];
 
-/// Whether a word has one of the 24 forms.
+/// The six that document 02's No. 7 added.
+pub const ADDED: std::ops::Range<usize> = 22..28;
+
+/// Whether a word has one of the forms.
 pub fn is_a64(word: u32) -> bool {
     A64.iter().any(|&(value, fixed)| word & fixed == value)
+}
+
+/// A word next to the forms: one of the six that were added, with a bit changed.
+pub fn near_a64(random: &mut Random) -> u32 {
+    let form = random.pick(&A64[ADDED]);
+    encode(form, random.pattern()) ^ 1 << random.below(32)
 }
 
 /// The word of a form whose free bits are these.

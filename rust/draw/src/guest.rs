@@ -2,10 +2,11 @@
 
 use crate::class::{first, Class};
 use crate::forms::{self, encode, Form, FENCE, FENCE_I, LEFTOVER};
-use crate::Random;
+use crate::{zbb, Random};
 
 const DIV: Form = (0x0200_4033, 0xFE00_707F);
 const REM: Form = (0x0200_6033, 0xFE00_707F);
+const CPOPW: Form = (0x6020_101B, 0xFFF0_707F);
 
 /// The instruction's bytes.
 fn bytes(instr: u32) -> Vec<u8> {
@@ -52,7 +53,7 @@ fn of_class(classes: &[Class], ignore_ebreak: bool, mut draw: impl FnMut() -> Ve
     }
 }
 
-/// An instruction after which the Rust's block goes on: FENCE.I is one.
+/// An instruction after which a block goes on, or FENCE.I, after which the Rust's does.
 pub fn next_instruction(random: &mut Random, forms: &[Form]) -> Vec<u8> {
     of_class(&[Class::Next, Class::FenceI], false, || {
         let form = random.pick(forms);
@@ -60,7 +61,7 @@ pub fn next_instruction(random: &mut Random, forms: &[Form]) -> Vec<u8> {
     })
 }
 
-/// `many` instructions after which the Rust's block goes on, then one of any kind.
+/// `many` instructions after which a block goes on, or the Rust's, then one of any kind.
 pub fn stream(random: &mut Random, many: usize, forms: &[Form], last: &[Form]) -> Vec<u8> {
     let mut guest = Vec::with_capacity(4 * many + 4);
     for _ in 0..many {
@@ -73,20 +74,24 @@ pub fn stream(random: &mut Random, many: usize, forms: &[Form], last: &[Form]) -
 
 /// Draws guest code of every form.
 pub struct Guests {
-    inline: Vec<Form>,
-    all: Vec<Form>,
+    /// Document 01's inline forms, and these with Zbb's.
+    base: Vec<Form>,
+    pub(crate) inline: Vec<Form>,
+    pub(crate) all: Vec<Form>,
 }
 
 impl Default for Guests {
     fn default() -> Guests {
-        Guests { inline: forms::inline(), all: forms::all() }
+        let (base, zbb) = (forms::inline(), zbb::forms());
+        let inline = [&base[..], &zbb].concat();
+        Guests { base, inline, all: [&forms::all()[..], &zbb, &zbb::NEAR].concat() }
     }
 }
 
 impl Guests {
-    /// An instruction after which the Rust's block goes on; half the time one of those with the most words.
+    /// An instruction after which a block goes on, or the Rust's; half the time one of those with the most words.
     fn repeated(&self, random: &mut Random) -> Vec<u8> {
-        let forms = if random.below(2) == 0 { &[DIV, REM] } else { &self.inline[..] };
+        let forms = if random.below(2) == 0 { &[DIV, REM, CPOPW] } else { &self.inline[..] };
         next_instruction(random, forms)
     }
 
@@ -127,6 +132,8 @@ impl Guests {
             1 => random.bytes_below(300),
             2 => self.repeated(random).repeat(58 + many),
             3 | 4 => self.fenced(random),
+            5 | 6 => self.around_zbb(random),
+            7..=11 => stream(random, many, &self.base, &self.all),
             _ => stream(random, many, &self.inline, &self.all),
         };
         match random.below(8) {
@@ -166,10 +173,10 @@ impl Guests {
         (guest, at)
     }
 
-    /// An inline instruction of the class, its fields anywhere.
+    /// An inline instruction of document 01's forms, of the class, its fields anywhere.
     fn plain(&self, random: &mut Random, class: Class) -> Vec<u8> {
         of_class(&[class], false, || {
-            let form = random.pick(&self.inline);
+            let form = random.pick(&self.base);
             bytes(encode(form, random.next() as u32))
         })
     }

@@ -11,12 +11,19 @@ pub mod marked;
 pub mod place;
 mod random;
 pub mod values;
+pub mod zbb;
 
 pub use case::Case;
 pub use random::Random;
 
-/// The bytes of the longest block: 1,862 words.
-pub const LONGEST: usize = 4 * 1_862;
+/// The most bytes of a block: 40 words for each of 64 instructions, and 6 (document 02, No. 7).
+pub const LONGEST: usize = longest(64);
+
+/// The most bytes of a block at a limit.
+pub const fn longest(limit: u32) -> usize {
+    let limit = if limit < 64 { limit as usize } else { 64 };
+    4 * (40 * limit + 6)
+}
 
 /// The little-endian words of a block.
 pub fn words(block: &[u8]) -> Vec<u32> {

@@ -1,15 +1,15 @@
 //! Questions to the listing: blocks, and the output bytes offered.
 
-use crate::forms::{encode, A64};
+use crate::forms::{encode, near_a64, A64};
 use crate::Random;
 
-/// A word of one of the 24 forms, each as often, its fields at the edges or anywhere.
+/// A word of one of the 30 forms, each as often, its fields at the edges or anywhere.
 pub fn word(random: &mut Random) -> u32 {
     let form = random.pick(&A64);
     encode(form, random.pattern())
 }
 
-/// `length` words of the 24 forms, each as often, their fields anywhere.
+/// `length` words of the 30 forms, each as often, their fields anywhere.
 pub fn plain_words(random: &mut Random, length: usize) -> Vec<u8> {
     let mut word = || {
         let form = random.pick(&A64);
@@ -26,11 +26,10 @@ pub fn block(random: &mut Random) -> Vec<u8> {
         _ => random.below(24),
     };
     let mixed = random.below(8) == 0;
-    let mut word = || {
-        if mixed && random.below(4) == 0 {
-            return random.next() as u32;
-        }
-        word(random)
+    let mut word = || match random.below(8) {
+        0 if mixed => random.next() as u32,
+        1 if mixed => near_a64(random),
+        _ => word(random),
     };
     let mut block: Vec<u8> = (0..many).flat_map(|_| word().to_le_bytes()).collect();
     match random.below(16) {

@@ -24,7 +24,7 @@ pub struct Row {
 
 /// Memory, 32-bit, 16-bit.
 pub const HELPERS: [u64; 3] = [0x10000, 0x20000, 0x30000];
-/// DIV x5, x6, x7, one of the two instructions with the most words.
+/// DIV x5, x6, x7, one of the two instructions of document 01 with the most words.
 pub const DIV: [u8; 4] = [0xB3, 0x42, 0x73, 0x02];
 /// A PC that needs four words.
 pub const LONG_PC: u64 = 0x0001_0001_0001_0000;
@@ -70,7 +70,7 @@ pub fn rows() -> Vec<Row> {
         row("slot offset 32,520", slot(32_520), Refused(1)),
         row("slot offset 32,512", slot(32_512), block(&ROW_1)),
         row("64 DIV", divisions(LONGEST), Size(1_862, 64)),
-        row("64 DIV", divisions(LONGEST - 1), Refused(6)),
+        row("64 DIV", divisions(4 * 1_862 - 1), Refused(6)),
     ]
 }
 

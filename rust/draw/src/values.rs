@@ -26,8 +26,20 @@ pub fn value(random: &mut Random) -> u64 {
         3 => (any % 65).wrapping_neg(),
         4 => 1 << (any % 64),
         5 => any as i32 as u64,
+        6 => bytes(random.next()),
         _ => random.next(),
     }
+}
+
+/// Bytes of which half are 0, and some 1, 0x80 or 0xff.
+fn bytes(any: u64) -> u64 {
+    u64::from_le_bytes(any.to_le_bytes().map(|byte| match byte >> 5 {
+        0..=3 => 0,
+        4 => 1,
+        5 => 0x80,
+        6 => 0xFF,
+        _ => byte,
+    }))
 }
 
 /// The 32 registers of RV64, or what their slots hold; register 0's entry is anything.

@@ -1,4 +1,4 @@
-//! A64 run: the 24 forms of document 01 by the Arm Architecture Reference Manual.
+//! A64 run: document 01's 24 forms and document 02's six of No. 7, by the Arm Architecture Reference Manual.
 
 #[derive(Clone, Copy, Debug, PartialEq, Eq)]
 pub struct A64State {
@@ -125,10 +125,15 @@ fn step(
         0x8A if low == 0 => a & b,
         0xAA if low == 0 => a | b,
         0xCA if low == 0 => a ^ b,
+        // BIC, ORN, EON
+        0x8A if low == 0x20_0000 => a & !b,
+        0xAA if low == 0x20_0000 => a | !b,
+        0xCA if low == 0x20_0000 => a ^ !b,
         0x9A => match low {
             0xC0_2000 => a << (b & 63),
             0xC0_2400 => a >> (b & 63),
             0xC0_2800 => (a as i64 >> (b & 63)) as u64,
+            0xC0_2C00 => a.rotate_right((b & 63) as u32),
             0xC0_0800 => a.checked_div(b).unwrap_or(0),
             0xC0_0C00 if b == 0 => 0,
             0xC0_0C00 => (a as i64).wrapping_div(b as i64) as u64,
@@ -148,6 +153,9 @@ fn step(
             0xC0_7C00 => ((u128::from(a) * u128::from(b)) >> 64) as u64,
             _ => return Err(UNREADABLE),
         },
+        // REV, CLZ
+        0xDA if word & 0xFF_FC00 == 0xC0_0C00 => a.swap_bytes(),
+        0xDA if word & 0xFF_FC00 == 0xC0_1000 => a.leading_zeros().into(),
         // SXTW
         0x93 if word & 0xFF_FC00 == 0x40_7C00 => a as i32 as u64,
         // MOVZ, MOVK

@@ -8,6 +8,7 @@ mod listing;
 mod listing_fmt;
 pub mod records;
 mod rv64;
+mod zbb;
 
 pub use a64::{
     a64_run, a64_run_from, A64Answer, A64State, CALLED, FAULT, OFF_THE_END, RETURNED, SPENT,

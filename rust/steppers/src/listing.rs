@@ -112,11 +112,15 @@ fn line(offset: u32, word: u32, sink: &mut impl Sink) -> bool {
         0x8A if low == 0 => sink.push(b"and ").three(word).push(b", lsl #0"),
         0xAA if low == 0 => sink.push(b"orr ").three(word).push(b", lsl #0"),
         0xCA if low == 0 => sink.push(b"eor ").three(word).push(b", lsl #0"),
+        0x8A if low == 0x20_0000 => sink.push(b"bic ").three(word).push(b", lsl #0"),
+        0xAA if low == 0x20_0000 => sink.push(b"orn ").three(word).push(b", lsl #0"),
+        0xCA if low == 0x20_0000 => sink.push(b"eon ").three(word).push(b", lsl #0"),
         0xEB if low == 0 && rd == 31 => sink.push(b"subs ").three(word).push(b", lsl #0"),
         0x9A => match low {
             0xC0_2000 => sink.push(b"lslv ").three(word),
             0xC0_2400 => sink.push(b"lsrv ").three(word),
             0xC0_2800 => sink.push(b"asrv ").three(word),
+            0xC0_2C00 => sink.push(b"rorv ").three(word),
             0xC0_0800 => sink.push(b"udiv ").three(word),
             0xC0_0C00 => sink.push(b"sdiv ").three(word),
             _ if low & 0xE0_0C00 == 0x80_0000 => {
@@ -131,6 +135,8 @@ fn line(offset: u32, word: u32, sink: &mut impl Sink) -> bool {
             0xC0_7C00 => sink.push(b"umulh ").three(word),
             _ => return false,
         },
+        0xDA if word & 0xFF_FC00 == 0xC0_0C00 => sink.push(b"rev ").x(rd).push(b", ").x(rn),
+        0xDA if word & 0xFF_FC00 == 0xC0_1000 => sink.push(b"clz ").x(rd).push(b", ").x(rn),
         0x93 if word & 0xFF_FC00 == 0x40_7C00 => {
             sink.push(b"sbfm ").x(rd).push(b", ").x(rn).push(b", #0, #31")
         }

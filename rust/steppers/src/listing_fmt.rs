@@ -52,6 +52,8 @@ enum Form {
     /// Three registers, the third one shifted by 0.
     Shifted(&'static str),
     Registers(&'static str),
+    /// A register made of one other.
+    OneSource(&'static str),
     Multiply,
     Compare,
     Select,
@@ -73,9 +75,13 @@ impl Form {
             0x8A00_0000 => Shifted("and"),
             0xAA00_0000 => Shifted("orr"),
             0xCA00_0000 => Shifted("eor"),
+            0x8A20_0000 => Shifted("bic"),
+            0xAA20_0000 => Shifted("orn"),
+            0xCA20_0000 => Shifted("eon"),
             0x9AC0_2000 => Registers("lslv"),
             0x9AC0_2400 => Registers("lsrv"),
             0x9AC0_2800 => Registers("asrv"),
+            0x9AC0_2C00 => Registers("rorv"),
             0x9AC0_0800 => Registers("udiv"),
             0x9AC0_0C00 => Registers("sdiv"),
             0x9B40_7C00 => Registers("smulh"),
@@ -84,6 +90,8 @@ impl Form {
             0xEB00_0000 if word & 31 == 31 => Compare,
             _ if word & 0xFFE0_0C00 == 0x9A80_0000 => Select,
             _ if word & 0xFFFF_FC00 == 0x9340_7C00 => SignExtend,
+            _ if word & 0xFFFF_FC00 == 0xDAC0_0C00 => OneSource("rev"),
+            _ if word & 0xFFFF_FC00 == 0xDAC0_1000 => OneSource("clz"),
             _ if word & 0xFF80_0000 == 0xD280_0000 => Move("movz"),
             _ if word & 0xFF80_0000 == 0xF280_0000 => Move("movk"),
             _ if word & 0xFFC0_03FF == 0x9100_03FF => Stack("add"),
@@ -136,6 +144,7 @@ impl Display for Text {
         match form {
             Shifted(name) => write!(f, "{name} {d}, {n}, {m}, lsl #0"),
             Registers(name) => write!(f, "{name} {d}, {n}, {m}"),
+            OneSource(name) => write!(f, "{name} {d}, {n}"),
             Multiply => write!(f, "madd {d}, {n}, {m}, xzr"),
             Compare => write!(f, "subs xzr, {n}, {m}, lsl #0"),
             Select => {

@@ -1,5 +1,7 @@
-//! RV64 run: the RISC-V Unprivileged ISA (RV64I, M, C) with document 01's source readings; FENCE.I ends it (document
-//! 02, No. 3).
+//! RV64 run: the RISC-V Unprivileged ISA (RV64I, M, C, Zbb) with document 01's source readings; FENCE.I ends it
+//! (document 02, No. 3).
+
+use crate::zbb;
 
 #[derive(Clone, Copy, Debug, PartialEq, Eq)]
 pub struct Rv64Answer {
@@ -88,6 +90,14 @@ fn set(x: &mut [u64; 32], rd: usize, value: u64) {
     x[0] = 0;
 }
 
+/// The value into rd; without one the instruction is not covered.
+#[inline(always)]
+fn set_covered(x: &mut [u64; 32], rd: usize, value: Option<u64>) -> Flow {
+    let Some(value) = value else { return Uncovered };
+    set(x, rd, value);
+    Next
+}
+
 /// The low 32 bits, sign-extended.
 #[inline(always)]
 fn word(value: u64) -> u64 {
@@ -156,7 +166,7 @@ fn step32(instr: u32, pc: u64, x: &mut [u64; 32]) -> Flow {
                 (1, 0) => a << (imm_i & 63),
                 (5, 0) => a >> (imm_i & 63),
                 (5, 0x10) => (a as i64 >> (imm_i & 63)) as u64,
-                _ => return Uncovered,
+                _ => return set_covered(x, rd, zbb::op_imm(funct3, instr >> 20, a)),
             },
         },
         // OP-IMM-32
@@ -165,7 +175,7 @@ fn step32(instr: u32, pc: u64, x: &mut [u64; 32]) -> Flow {
             (1, 0) => word(a << (imm_i & 31)),
             (5, 0) => word(u64::from(a as u32 >> (imm_i & 31))),
             (5, 0x20) => (a as i32 >> (imm_i & 31)) as u64,
-            _ => return Uncovered,
+            _ => return set_covered(x, rd, zbb::op_imm_32(funct3, instr >> 20, a)),
         },
         // OP
         0x33 => match (funct7, funct3) {
@@ -187,7 +197,7 @@ fn step32(instr: u32, pc: u64, x: &mut [u64; 32]) -> Flow {
             (1, 5) => a.checked_div(b).unwrap_or(u64::MAX),
             (1, 6) => rem(a as i64, b as i64) as u64,
             (1, 7) => a.checked_rem(b).unwrap_or(a),
-            _ => return Uncovered,
+            _ => return set_covered(x, rd, zbb::op(funct7, funct3, a, b)),
         },
         // OP-32
         0x3B => match (funct7, funct3) {
@@ -202,7 +212,7 @@ fn step32(instr: u32, pc: u64, x: &mut [u64; 32]) -> Flow {
             (1, 5) => word((a as u32).checked_div(b as u32).unwrap_or(u32::MAX).into()),
             (1, 6) => word(rem(i64::from(a as i32), i64::from(b as i32)) as u64),
             (1, 7) => word((a as u32).checked_rem(b as u32).unwrap_or(a as u32).into()),
-            _ => return Uncovered,
+            _ => return set_covered(x, rd, zbb::op_32(funct7, funct3, rs2, a, b)),
         },
         // MISC-MEM: FENCE, FENCE.I
         0x0F if funct3 == 0 => return Next,

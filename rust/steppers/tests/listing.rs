@@ -24,7 +24,7 @@ fn line(word: u32) -> Option<String> {
 }
 
 /// A text of each form, with registers 31 and the ends of the fields. llvm-mc makes the same words of them.
-const TEXTS: [(u32, &str); 60] = [
+const TEXTS: [(u32, &str); 74] = [
     (0xD282_0040, "movz x0, #4098, lsl #0"),
     (0xD2FF_FFFE, "movz x30, #65535, lsl #48"),
     (0xD2A0_001F, "movz xzr, #0, lsl #16"),
@@ -41,6 +41,20 @@ const TEXTS: [(u32, &str); 60] = [
     (0x8A00_03FE, "and x30, xzr, x0, lsl #0"),
     (0xAA1F_03C0, "orr x0, x30, xzr, lsl #0"),
     (0xCA17_02D5, "eor x21, x22, x23, lsl #0"),
+    (0x8A23_0041, "bic x1, x2, x3, lsl #0"),
+    (0x8A29_03DF, "bic xzr, x30, x9, lsl #0"),
+    (0xAA20_03FE, "orn x30, xzr, x0, lsl #0"),
+    (0xAA2A_012B, "orn x11, x9, x10, lsl #0"),
+    (0xCA3F_03C0, "eon x0, x30, xzr, lsl #0"),
+    (0xCA37_02D5, "eon x21, x22, x23, lsl #0"),
+    (0x9AC3_2C41, "rorv x1, x2, x3"),
+    (0x9AC9_2FDF, "rorv xzr, x30, x9"),
+    (0xDAC0_0C41, "rev x1, x2"),
+    (0xDAC0_0FDF, "rev xzr, x30"),
+    (0xDAC0_0FFE, "rev x30, xzr"),
+    (0xDAC0_1041, "clz x1, x2"),
+    (0xDAC0_13BE, "clz x30, x29"),
+    (0xDAC0_13FF, "clz xzr, xzr"),
     (0x9AC3_2041, "lslv x1, x2, x3"),
     (0x9AC9_27DF, "lsrv xzr, x30, x9"),
     (0x9ACA_2BF8, "asrv x24, xzr, x10"),
