@@ -251,8 +251,8 @@ mod tests {
         assert!(places.iter().all(|&number| number >= 20), "{places:?}");
     }
 
-    /// Of the blocks that refusals 2, 4 and 5 leave, about one in three reaches Zbb; each of its instructions does, and it
-    /// stands where the list has it.
+    /// Of the blocks that refusals 2, 4 and 5 leave, about one in three reaches Zbb; each of its instructions is among
+    /// them, and it stands where the list has it.
     #[test]
     fn zbb_in_every_place() {
         let (guests, mut random) = (Guests::default(), Random(1));

@@ -8,6 +8,7 @@ pub mod guest;
 pub mod index;
 pub mod listing;
 pub mod marked;
+pub mod marked_zbb;
 pub mod place;
 mod random;
 pub mod values;

@@ -92,5 +92,5 @@ pub fn differs(row: &Row, translate: impl FnOnce(&mut [u8]) -> [u32; 4]) -> Opti
     if answer == expected && same && rest.iter().all(|&byte| byte == FILL) {
         return None;
     }
-    Some(format!("row {}: {answer:?} {words:x?}, document 01 has {:x?}", row.name, row.found))
+    Some(format!("row {}: {answer:?} {words:x?}, it has {:x?}", row.name, row.found))
 }

@@ -30,7 +30,7 @@ fn translate() {
 fn check_rows() {
     let (asked, wrong) = rows::check();
     none_differs(&wrong);
-    println!("oracle: {asked} rows of document 01 as the Rust has them");
+    println!("oracle: {asked} rows of document 01 and of Zbb as they must be");
     let (asked, wrong) = rules::check();
     none_differs(&wrong);
     println!("oracle: {asked} instructions and places by document 01's rules as the Rust has them");

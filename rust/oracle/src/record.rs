@@ -1,5 +1,8 @@
 //! The recorded answers: cases drawn from a fixed seed, each with what the Rust says of it; of blocks that FENCE.I
-//! ends, with their count as the limit. The README describes the files byte by byte.
+//! ends, with their count as the limit; of those that reach Zbb, with its words. The README describes the files byte by
+//! byte.
+
+mod zbb_cases;
 
 use crate::{compressed_immediates, decode, expected, place};
 use draw::case::{self, BAD_SLOTS, HELPERS};
@@ -13,6 +16,8 @@ use draw::{Case, Random, LONGEST};
 
 const SEED: u64 = 0x2B13_4309_95A6_4001;
 const MAGIC: &[u8; 8] = b"A64BLOCK";
+/// The output bytes offered where a case does not say: enough for 64 DIV.
+const AMPLE: usize = 4 * 1_862;
 /// C.NOP.
 const NOP: [u8; 2] = [0x01, 0x00];
 
@@ -134,7 +139,7 @@ fn largest(random: &mut Random, cases: &mut Vec<Case>) {
     let (slot_offset, helpers) = (32_512, HELPERS[4]);
     let case = Case { pc: LONG_PC, slot_offset, helpers, ..Case::new(&DIV.repeat(64), 64) };
     cases.push(case.clone());
-    cases.push(Case { room: LONGEST - 1, ..case.clone() });
+    cases.push(Case { room: AMPLE - 1, ..case.clone() });
     cases.push(Case { limit: u32::MAX, room: LONGEST + 4, ..case.clone() });
     cases.push(Case { guest: [0xb3, 0x62, 0x73, 0x02].repeat(64), ..case.clone() });
     for last in [[0x23, 0x3f, 0x53, 0xfe], [0xe7, 0x82, 0x02, 0x80], [0xb3, 0x22, 0x73, 0x40]] {
@@ -220,6 +225,10 @@ fn cases() -> Vec<Case> {
     fence_places(&mut random, &mut cases);
     fence_neighbours(&mut random, &mut cases);
     fence_fields(&mut random, &mut cases);
+    zbb_cases::cases(&mut random, &mut cases);
+    for case in cases.iter_mut().filter(|case| case.room >= LONGEST) {
+        case.room -= LONGEST - AMPLE;
+    }
     cases
 }
 

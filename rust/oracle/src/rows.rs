@@ -1,7 +1,8 @@
-//! Document 01's "Marked blocks", asked of the Rust.
+//! Document 01's "Marked blocks", asked of the Rust, and Zbb's, whose words are this crate's table.
 
 use crate::{expected, program};
 use draw::marked::{differs, rows, Row, PRINTED};
+use draw::marked_zbb;
 
 fn asked(row: &Row) -> Option<String> {
     differs(row, |output| {
@@ -25,7 +26,7 @@ fn printed() -> Option<String> {
 
 /// The rows that differ, and how many were asked.
 pub fn check() -> (usize, Vec<String>) {
-    let rows = rows();
+    let rows: Vec<Row> = rows().into_iter().chain(marked_zbb::rows()).collect();
     let mut wrong: Vec<String> = rows.iter().filter_map(asked).collect();
     wrong.extend(printed());
     (rows.len() + 1, wrong)

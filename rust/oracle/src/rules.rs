@@ -1,9 +1,10 @@
-//! Document 01's "How a block is read" with document 02's No. 3, and "Place", read a second time and compared with the Rust.
+//! Document 01's "How a block is read" with document 02's Nos. 3 and 7, and "Place", read a second time and compared
+//! with the Rust.
 
 use crate::{expected, place, Answer};
 use draw::case::{DROP, HELPER, PLAIN};
 use draw::class::{first, Class};
-use draw::{Case, Random, LONGEST};
+use draw::{longest, Case, Random, LONGEST};
 
 /// Rule 7: the uncovered encodings that leave scratch words.
 fn leaves(instr: u32) -> bool {
@@ -59,7 +60,7 @@ pub fn compare(case: &Case) -> Result<Answer, String> {
     } else {
         (refusal, count, end) == (0, answer.count, answer.end)
             && length.is_multiple_of(4)
-            && length <= LONGEST
+            && length <= longest(case.limit)
             && output[..length].ends_with(&RET)
     };
     if good && output[length..].iter().all(|&byte| byte == FILL) {
