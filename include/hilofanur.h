@@ -72,10 +72,14 @@ extern "C" {
 #endif
 
 /* Raised with every change of this file's functions, types or numbers. */
-#define HILOFANUR_VERSION "0.2.0"
+#define HILOFANUR_VERSION "0.3.0"
 
-/* The bytes of the longest block: 1,862 words. */
-#define HILOFANUR_LONGEST_BLOCK 7448
+/* The most bytes of a block: 40 words for each of 64 instructions, and 6. */
+#define HILOFANUR_LONGEST_BLOCK 10264
+/* The most bytes of a block at a limit, which above 64 counts as 64: an output of so many is long enough. The limit is
+ * a uint32_t, as in hilofanur_translate; it is written twice here, and so has no side effects. */
+#define HILOFANUR_BLOCK_BYTES(limit) \
+    ((size_t)4 * (40 * ((uint32_t)(limit) < 64 ? (size_t)(uint32_t)(limit) : 64) + 6))
 /* 32 registers of 8 bytes. */
 #define HILOFANUR_REGISTERS 256
 /* X0 to X30, SP and NZCV, 8 bytes each. */
@@ -124,11 +128,16 @@ struct hilofanur_translate_answer {
 
 /* Translate: the block that starts at pc, written at the front of output; the rest of output stays.
  *
+ * Inline are the instructions of RV64I, M, C and Zbb that access no memory, but not SYSTEM. Loads, stores, AMO, FP
+ * loads and FP stores call a helper. So a guest may be built with -march=rv64gc_zbb; the rest of its instructions, FP
+ * arithmetic and SYSTEM, end a block before them, and the caller does them.
+ *
  * guest: little-endian halfwords, the first at pc; four bytes for each instruction of the limit are enough, 256 at
  * the most. limit: the most instructions; above 64 it counts as 64. ignore_ebreak: C.EBREAK does nothing.
  * slot_offset: register n has its slot at X0 plus slot_offset plus 8n. memory_helper, helper32, helper16: the
  * addresses that the block calls for loads and stores of 32 bits, for other helper instructions of 32 bits, and for
- * those of 16 bits. Refusals 1 to 6; with HILOFANUR_LONGEST_BLOCK bytes of output 6 does not occur.
+ * those of 16 bits. Refusals 1 to 6; with HILOFANUR_BLOCK_BYTES(limit) bytes of output, and so with
+ * HILOFANUR_LONGEST_BLOCK, 6 does not occur.
  *
  * FENCE.I, whatever its fields beside opcode and funct3, ends the block: it is counted, and the next PC is the one
  * after it. FENCE goes on.
@@ -163,7 +172,7 @@ struct hilofanur_rv64_run_answer hilofanur_rv64_run(
 enum hilofanur_end {
     HILOFANUR_OFF_THE_END = 1,
     HILOFANUR_SPENT = 2,      /* the budget is used */
-    HILOFANUR_UNREADABLE = 3, /* a word outside the 24 forms */
+    HILOFANUR_UNREADABLE = 3, /* a word outside the 30 forms */
     HILOFANUR_FAULT = 4,      /* an access not wholly in memory, not a multiple of 8, or by SP not a multiple of 16 */
     HILOFANUR_RETURNED = 5,   /* RET */
     HILOFANUR_CALLED = 6      /* BLR, with the next word's address in X30 */
@@ -208,7 +217,7 @@ struct hilofanur_list_answer {
  *   00000000 d2820040 movz x0, #4098, lsl #0
  *
  * its byte offset and the word, eight hexadecimal digits each, the Arm manual's unaliased assembler form, a line
- * feed. No zero byte ends the text. HILOFANUR_LONGEST_LINE bytes for each word are enough. The forms are the 24
+ * feed. No zero byte ends the text. HILOFANUR_LONGEST_LINE bytes for each word are enough. The forms are the 30
  * that A64 run reads. Refusals 12 to 14.
  */
 struct hilofanur_list_answer hilofanur_list(

@@ -112,8 +112,25 @@ pub use jump::{ExecutableStore, Helper, MemoryHelper, Next, OpenStore, PlaceErro
 pub use refusal::{ListRefused, Refusal};
 pub use state::{A64State, End, EndKind, Registers};
 
-/// The bytes of the longest block: 1,862 words.
-pub const LONGEST_BLOCK: usize = 4 * 1_862;
+/// The most bytes of a block: 40 words for each of 64 instructions, and 6.
+pub const LONGEST_BLOCK: usize = 4 * 2_566;
+
+/// The most bytes of a block at a limit, which above 64 counts as 64: an output of so many is long enough.
+///
+/// ```
+/// use hilofanur::{block_bytes, translate, Guest, Host, Refusal};
+///
+/// // clz x5, x6 (Zbb)
+/// let guest = Guest { bytes: &[0x93, 0x12, 0x03, 0x60], pc: 0x1000, limit: 1, ignore_ebreak: false };
+/// let host = Host { slot_offset: 0, memory_helper: 0x10000, helper32: 0x20000, helper16: 0x30000 };
+/// let mut output = [0; block_bytes(1)];
+/// assert_eq!(translate(&guest, &host, &mut output)?.length, 24);
+/// # Ok::<(), Refusal>(())
+/// ```
+pub const fn block_bytes(limit: u32) -> usize {
+    let instructions = if limit < 64 { limit as usize } else { 64 };
+    4 * (40 * instructions + 6)
+}
 
 /// The bytes of the longest line of a listing: of one whose text is `subs xzr, x30, x30, lsl #0`.
 pub const LONGEST_LINE: usize = 45;
@@ -206,8 +223,13 @@ pub struct A64Run {
 
 /// Translate: writes the block at the front of `output`, whose other bytes stay.
 ///
+/// Inline are the instructions of RV64I, M, C and Zbb that access no memory, but not SYSTEM. Loads, stores, AMO, FP
+/// loads and FP stores call a helper. So a guest may be built with -march=rv64gc_zbb; the rest of its instructions, FP
+/// arithmetic and SYSTEM, end a block before them, and the caller does them.
+///
 /// FENCE.I, whatever its fields beside opcode and funct3, ends the block: it is counted, and the next PC is the one
-/// after it. FENCE goes on. With [`LONGEST_BLOCK`] bytes of output refusal 6 does not occur.
+/// after it. FENCE goes on. With [`block_bytes`] of the limit, and so with [`LONGEST_BLOCK`] bytes of output, refusal 6
+/// does not occur.
 ///
 /// # Errors
 /// Refusals 1 to 6.

@@ -104,7 +104,7 @@ pub enum End {
     OffTheEnd = 1,
     /// The budget is used.
     Spent = 2,
-    /// A word outside the 24 forms.
+    /// A word outside the 30 forms.
     Unreadable = 3,
     /// An access not wholly inside memory, not a multiple of 8, or through SP not a multiple of 16.
     Fault = 4,

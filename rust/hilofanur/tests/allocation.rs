@@ -3,7 +3,7 @@
 //! nothing.
 
 use hilofanur::{a64_run, a64_run_from, list, list_into, A64Run, A64State, End, Found, Index, Key};
-use hilofanur::{Memory, Refusal, Words, INDEX_BYTES, LONGEST_LINE};
+use hilofanur::{Memory, Refusal, Words, INDEX_BYTES, LONGEST_BLOCK, LONGEST_LINE};
 use std::alloc::{GlobalAlloc, Layout, System};
 use std::cell::Cell;
 
@@ -37,7 +37,7 @@ fn allocated<T>(run: impl FnOnce() -> T) -> (usize, T) {
 }
 
 /// More than the longest block has.
-const WORDS: usize = 2_000;
+const WORDS: usize = LONGEST_BLOCK / 4 + 1;
 
 #[test]
 fn listing() {

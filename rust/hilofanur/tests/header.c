@@ -18,6 +18,7 @@ static struct hilofanur_translate_answer translate(uint64_t slot_offset, uint8_t
 
 _Static_assert(sizeof(struct hilofanur_translate_answer) == 4 * sizeof(uint32_t), "refusal, length, count, end");
 _Static_assert(sizeof(struct hilofanur_index_place_answer) == 2 * sizeof(uint64_t), "refusal, start");
+_Static_assert(HILOFANUR_BLOCK_BYTES(64) == HILOFANUR_LONGEST_BLOCK, "64 is the most");
 _Static_assert(sizeof(struct hilofanur_index_lookup_answer) == 4 * sizeof(uint64_t), "refusal, start, length, count");
 
 /* A block by its end, its bytes, count and next PC, as translation and the RV64 run have them. */
@@ -85,6 +86,21 @@ static void ends(void)
         printf(" %d:%" PRIu32, names[n] == run.end, run.end);
     }
     printf("\n");
+}
+
+/* The most bytes by the limit, which may be any expression, and what a block of one CPOPW x5, x6 takes of them. */
+static void block_bytes(void)
+{
+    static const uint8_t guest[] = {0x9b, 0x12, 0x23, 0x60};
+    static const uint32_t limits[] = {0, 1, 8, 63, 64, 65, UINT32_MAX};
+    uint8_t output[HILOFANUR_BLOCK_BYTES(1)];
+    printf("block bytes");
+    for (int n = 0; n < 7; n++)
+        printf(" %zu", HILOFANUR_BLOCK_BYTES(limits[n]));
+    printf(" %zu %zu\n", HILOFANUR_BLOCK_BYTES(output[0] > 255 ? 1 : 2), 2 * HILOFANUR_BLOCK_BYTES(1 + 1));
+    struct hilofanur_translate_answer block = hilofanur_translate(
+        guest, sizeof guest, UINT64_MAX - 1, 1, false, 0, 0x10000, 0x20000, 0x30000, output, sizeof output);
+    printf("cpopw %" PRIu32 " of %zu\n", block.length, sizeof output);
 }
 
 static void place(uint8_t *index, uint8_t *store, size_t length, uint64_t pc, const uint8_t *code, size_t code_length)
@@ -161,6 +177,7 @@ int main(void)
     end_kinds();
     call();
     ends();
+    block_bytes();
     printf("version %s\n", HILOFANUR_VERSION);
     return 0;
 }

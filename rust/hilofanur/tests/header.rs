@@ -53,6 +53,12 @@ refused 10 11
 /// Each end of a run, as the header names it and by number.
 const ENDS: &str = "ends 1:1 1:2 1:3 1:4 1:5 1:6\n";
 
+/// The most bytes by the limit, and those of one CPOPW at the top of the PCs.
+const BLOCK_BYTES: &str = "\
+block bytes 24 184 1304 10104 10264 10264 10264 344 688
+cpopw 132 of 184
+";
+
 #[test]
 fn from_c() {
     let here = Path::new(env!("CARGO_MANIFEST_DIR"));
@@ -70,7 +76,8 @@ fn from_c() {
     let bytes = format!("index bytes {INDEX_BYTES}\n");
     let version = concat!("version ", env!("CARGO_PKG_VERSION"), "\n");
     let expected =
-        [PRINTED, others, LISTED, INDEXED, &bytes, ENDED, CALLED, ENDS, version].concat();
+        [PRINTED, others, LISTED, INDEXED, &bytes, ENDED, CALLED, ENDS, BLOCK_BYTES, version]
+            .concat();
     assert_eq!(String::from_utf8_lossy(&ran.stdout), expected);
     assert!(ran.status.success());
 }

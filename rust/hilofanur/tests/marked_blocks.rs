@@ -1,7 +1,7 @@
-//! Document 01's "Marked blocks", asked of the library.
+//! Document 01's "Marked blocks" and Zbb's, asked of the library.
 
 use draw::marked::{self, Found, Row};
-use draw::{words, Case};
+use draw::{marked_zbb, words, Case};
 use hilofanur::{a64_run, a64_run_from, boundary, translate};
 use hilofanur::{A64Run, A64State, End, Guest, Host, Memory, Refusal, Registers, Words};
 
@@ -14,6 +14,11 @@ fn question(row: &Row) -> (Guest<'_>, Host) {
     )
 }
 
+/// Document 01's, then Zbb's.
+fn rows() -> Vec<Row> {
+    marked::rows().into_iter().chain(marked_zbb::rows()).collect()
+}
+
 #[test]
 fn rows_hold() {
     let ask = |row: &Row, output: &mut [u8]| {
@@ -21,15 +26,15 @@ fn rows_hold() {
         let a = boundary::translate(&guest, &host, output);
         [a.refusal, a.length, a.count, a.end]
     };
-    let rows = marked::rows();
+    let rows = rows();
     let wrong: Vec<String> =
         rows.iter().filter_map(|row| marked::differs(row, |output| ask(row, output))).collect();
-    assert_eq!((rows.len(), wrong), (15, vec![]));
+    assert_eq!((rows.len(), wrong), (15 + 61, vec![]));
 }
 
 #[test]
 fn refused_rows_by_name() {
-    for row in marked::rows() {
+    for row in rows() {
         let (guest, host) = question(&row);
         let answer = translate(&guest, &host, &mut vec![0; row.case.room]);
         match row.found {
@@ -49,7 +54,7 @@ fn lend(bytes: &mut [u8; 256]) -> Memory<'_> {
 /// Each block run as a whole, and cut after one of its words and gone on with there; of long ones, after every 41st.
 #[test]
 fn rows_in_two_parts() {
-    for row in marked::rows() {
+    for row in rows() {
         let (guest, host) = question(&row);
         let mut output = vec![0; row.case.room];
         let Ok(block) = translate(&guest, &host, &mut output) else { continue };

@@ -3,7 +3,7 @@
 
 use draw::forms::{self, encode};
 use draw::values::{registers, value};
-use draw::{words, Random};
+use draw::{words, zbb, Random};
 use hilofanur::{a64_run, rv64_run, translate, LONGEST_BLOCK};
 use hilofanur::{A64State, End, EndKind, Guest, Host, Memory, Registers, Words};
 
@@ -84,7 +84,7 @@ fn hold(bytes: &[u8], block: &[u8], end: EndKind, slot_offset: u64, random: &mut
 #[test]
 fn every_form_with_rubbish_in_slot_0() {
     let (mut random, mut blocks, mut helpers) = (Random(6), 0, 0);
-    for form in forms::all() {
+    for form in forms::all().into_iter().chain(zbb::forms()) {
         for free in [0, 0xF80, 0xF_8000, 0x1F0_0000, 0xF_8F80, 0x1F0_0F80, u32::MAX] {
             let bytes = encode(form, free & random.next() as u32).to_le_bytes();
             let slot_offset = random.pick(&[0, 8, 32_512]);
