@@ -1,6 +1,6 @@
 //! Demand 3 on the library's own answers: a helper-free block, plain or drop, run as A64 words against the RV64 run.
 
-use crate::{question, Compared};
+use crate::{question, Compared, Zbb};
 use draw::guest::Guests;
 use draw::values::{registers, value, Pool};
 use draw::{Random, LONGEST};
@@ -14,6 +14,7 @@ pub struct Blocks {
     guests: Guests,
     output: Vec<u8>,
     pool: Pool,
+    zbb: Zbb,
 }
 
 /// Memory around the slots, the base, and where in memory the slots begin.
@@ -25,7 +26,8 @@ struct Place {
 
 impl Default for Blocks {
     fn default() -> Blocks {
-        Blocks { guests: Guests::default(), output: vec![0; LONGEST], pool: Pool::default() }
+        let (guests, pool, zbb) = (Guests::default(), Pool::default(), Zbb::default());
+        Blocks { guests, output: vec![0; LONGEST], pool, zbb }
     }
 }
 
@@ -83,16 +85,24 @@ fn run(
 
 impl Compared for Blocks {
     const NAME: &'static str = "demand 3";
-    const OUTCOMES: &'static [&'static str] = &["plain", "with a helper", "drop", "refused"];
+    const OUTCOMES: &'static [&'static str] = &[
+        "plain",
+        "with a helper",
+        "drop",
+        "plain with Zbb",
+        "with a helper and Zbb",
+        "drop with Zbb",
+        "refused",
+    ];
 
     fn compare(&mut self, random: &mut Random) -> Result<usize, String> {
         let case = self.guests.case(random);
         let (guest, host) = question(&case);
         let block = match translate(&guest, &host, &mut self.output) {
-            Err(_) => return Ok(3),
+            Err(_) => return Ok(6),
             Ok(block) => block,
         };
-        let outcome = block.end_kind as usize - 1;
+        let outcome = self.zbb.outcome(&case.guest, block.count, block.end_kind.number());
         if block.end_kind == EndKind::Helper {
             return Ok(outcome);
         }
@@ -104,5 +114,9 @@ impl Compared for Blocks {
             return Ok(outcome);
         }
         Err(format!("{case:x?} from {registers:x?}: not so: {wrong:?}"))
+    }
+
+    fn zbb(&self) -> Option<&Zbb> {
+        Some(&self.zbb)
     }
 }

@@ -2,7 +2,7 @@
 //! helper left on to its return. Each run is the plain stepper's, and each phrase is held to the RV64 stepper and
 //! document 01.
 
-use crate::{question, Compared};
+use crate::{question, Compared, Zbb};
 use draw::case::HelperCase;
 use draw::class::instruction;
 use draw::forms::HELPER_KINDS;
@@ -29,12 +29,13 @@ pub struct Helpers {
     pool: Pool,
     /// Which prefixes were met, by kind.
     met: [[bool; 64]; KINDS],
+    zbb: Zbb,
 }
 
 impl Default for Helpers {
     fn default() -> Helpers {
-        let (guests, pool) = (Guests::default(), Pool::default());
-        Helpers { guests, output: vec![0; LONGEST], pool, met: [[false; 64]; KINDS] }
+        let (guests, pool, zbb) = (Guests::default(), Pool::default(), Zbb::default());
+        Helpers { guests, output: vec![0; LONGEST], pool, met: [[false; 64]; KINDS], zbb }
     }
 }
 
@@ -279,6 +280,7 @@ impl Compared for Helpers {
             format!("{case:x?} at {address:x}, {:x?} from {x:x?}: {text}", block.layout)
         })?;
         self.met[kind][prefix] = true;
+        self.zbb.take(&case.guest, prefix as u32);
         Ok(kind)
     }
 
@@ -296,5 +298,9 @@ impl Compared for Helpers {
         let prefixes = (0..64).filter(|&prefix| !self.met.iter().any(|met| met[prefix]));
         missed.extend(prefixes.map(|prefix| format!("a prefix of {prefix}")));
         missed
+    }
+
+    fn zbb(&self) -> Option<&Zbb> {
+        Some(&self.zbb)
     }
 }

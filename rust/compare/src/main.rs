@@ -9,10 +9,12 @@ mod place;
 mod rv64;
 mod soak;
 mod translate;
+mod zbb;
 
 use draw::{Case, Random};
 use hilofanur::{Guest, Host};
 use std::time::{Duration, Instant};
+use zbb::Zbb;
 
 const USE: &str = "use: compare [soak | ROW] COUNT [SEED]";
 /// How many differences are printed.
@@ -30,6 +32,10 @@ trait Compared {
     /// What else must have been met, and was not.
     fn missed(&self) -> Vec<String> {
         Vec::new()
+    }
+    /// What was met of Zbb, where guests are drawn: some block, and every instruction.
+    fn zbb(&self) -> Option<&Zbb> {
+        None
     }
 }
 
@@ -76,8 +82,9 @@ fn run<T: Compared + Default>(asked: &Asked) -> Option<bool> {
             shown = Instant::now();
         }
     }
-    let outcomes: Vec<String> =
+    let mut outcomes: Vec<String> =
         T::OUTCOMES.iter().zip(&met).map(|(name, number)| format!("{name} {number}")).collect();
+    outcomes.extend(operation.zbb().map(|zbb| format!("in all with Zbb {}", zbb.blocks())));
     println!("{}: {}", T::NAME, outcomes.join(", "));
     let missed = if count >= T::ENOUGH { missed(&operation, &met) } else { Vec::new() };
     if !missed.is_empty() {
@@ -92,6 +99,7 @@ fn missed<T: Compared>(operation: &T, met: &[u64]) -> Vec<String> {
     let outcomes = T::OUTCOMES.iter().zip(met).filter(|(_, &met)| met == 0);
     let mut missed: Vec<String> = outcomes.map(|(name, _)| name.to_string()).collect();
     missed.extend(operation.missed());
+    missed.extend(operation.zbb().map_or(vec![], Zbb::missed));
     missed
 }
 

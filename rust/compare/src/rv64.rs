@@ -1,6 +1,6 @@
 //! RV64 run against the plain stepper: refusals, count, next PC, registers.
 
-use crate::{question, Compared};
+use crate::{question, Compared, Zbb};
 use draw::guest::Guests;
 use draw::values::{registers, value};
 use draw::Random;
@@ -10,6 +10,7 @@ use steppers::rv64_run;
 #[derive(Default)]
 pub struct Rv64 {
     guests: Guests,
+    zbb: Zbb,
 }
 
 const REFUSALS: [u32; 5] = [0, 2, 3, 4, 5];
@@ -43,9 +44,14 @@ impl Compared for Rv64 {
                 "{case:x?} from {before:x?}: {answer:x?} {after:x?}, the stepper {expected:x?} {registers:x?}"
             ));
         }
+        self.zbb.take(&case.guest, expected.count);
         if expected.refusal == 0 && before[0] != 0 {
             return Ok(5);
         }
         Ok(REFUSALS.iter().position(|&number| number == expected.refusal).unwrap())
+    }
+
+    fn zbb(&self) -> Option<&Zbb> {
+        Some(&self.zbb)
     }
 }

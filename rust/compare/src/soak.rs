@@ -4,7 +4,7 @@
 use crate::index::{library_key, Pair};
 use draw::index::key;
 use draw::values::Pool;
-use draw::Random;
+use draw::{Random, LONGEST};
 use hilofanur::{boundary, INDEX_BYTES};
 use std::hint::black_box;
 use std::time::{Duration, Instant};
@@ -13,7 +13,7 @@ use steppers::{Key, Placed};
 const STORE: usize = 1 << 20;
 const KEYS: usize = 2_048;
 /// The most words of a block, another after every so many calls: the store holds thousands of blocks, or fewer than 512.
-const WORDS: [usize; 6] = [1, 16, 64, 400, 1_000, 1_862];
+const WORDS: [usize; 6] = [1, 16, 64, 400, 1_000, LONGEST / 4];
 const CALLS: u64 = 1 << 16;
 /// After every so many calls the whole store is compared and every key looked up.
 const WHOLE: u64 = 1 << 20;

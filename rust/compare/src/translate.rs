@@ -1,10 +1,10 @@
-//! Translate against `compile_native_block`, with its count as the limit where FENCE.I ends a block: refusals, words, count,
-//! end kind, and the output after the block.
+//! Translate against `compile_native_block`, with its count as the limit where FENCE.I ends a block, and with the
+//! words of Zbb where a block reaches it: refusals, words, count, end kind, and the output after the block.
 
-use crate::{question, Compared};
+use crate::{question, Compared, Zbb};
 use draw::case::enough;
 use draw::guest::Guests;
-use draw::{Case, Random, LONGEST};
+use draw::{longest, Case, Random, LONGEST};
 use hilofanur::boundary;
 use oracle::{expected, Answer};
 
@@ -15,13 +15,16 @@ pub struct Translate {
     /// What the library's output holds before each call.
     fill: Vec<u8>,
     output: Vec<u8>,
+    zbb: Zbb,
+    /// Whether a block with Zbb was accepted with just the most bytes that its limit needs.
+    most: bool,
 }
 
 impl Default for Translate {
     fn default() -> Translate {
         let fill = Random(0).bytes(LONGEST + 64);
         let (guests, block, output) = (Guests::default(), vec![0; LONGEST], fill.clone());
-        Translate { guests, block, fill, output }
+        Translate { guests, block, fill, output, zbb: Zbb::default(), most: false }
     }
 }
 
@@ -38,11 +41,12 @@ impl Translate {
     }
 }
 
-/// The output bytes offered for a block of so many: enough, one less, any number below.
-fn room(random: &mut Random, length: usize) -> usize {
+/// The output bytes offered for a block of so many: enough, one less, any number below, the most at its limit.
+fn room(random: &mut Random, length: usize, limit: u32) -> usize {
     match random.below(16) {
         0 => length.max(1) - 1,
         1 => random.below(length + 1),
+        2 | 3 => longest(limit),
         _ => enough(random, length),
     }
 }
@@ -53,6 +57,9 @@ impl Compared for Translate {
         "plain",
         "with a helper",
         "drop",
+        "plain with Zbb",
+        "with a helper and Zbb",
+        "drop with Zbb",
         "refused 1",
         "refused 2",
         "refused 3",
@@ -64,7 +71,7 @@ impl Compared for Translate {
     fn compare(&mut self, random: &mut Random) -> Result<usize, String> {
         let mut case = self.guests.case(random);
         let whole = expected(&case, &mut self.block);
-        case.room = room(random, whole.length as usize);
+        case.room = room(random, whole.length as usize, case.limit);
         let must = if case.room < whole.length as usize {
             Answer { refusal: 6, ..Answer::default() }
         } else {
@@ -72,13 +79,29 @@ impl Compared for Translate {
         };
         let (answer, same) = self.ask(&case, must.length as usize);
         if answer != must || !same {
-            return Err(format!(
-                "{case:x?}: {answer:?}, the Rust {must:?}, output the same: {same}"
-            ));
+            return Err(format!("{case:x?}: {answer:?}, not {must:?}, output the same: {same}"));
         }
-        Ok(match must.refusal {
-            0 => must.end as usize - 1,
-            refusal => refusal as usize + 2,
-        })
+        if answer.refusal == 6 && case.room >= longest(case.limit) {
+            return Err(format!("{case:x?}: refused by 6 with the most bytes at its limit"));
+        }
+        if answer.refusal != 0 {
+            return Ok(answer.refusal as usize + 5);
+        }
+        let outcome = self.zbb.outcome(&case.guest, answer.count, answer.end);
+        self.most |= outcome >= 3 && case.room == longest(case.limit);
+        Ok(outcome)
+    }
+
+    fn missed(&self) -> Vec<String> {
+        let name = "a block with Zbb in the most bytes at its limit";
+        if self.most {
+            vec![]
+        } else {
+            vec![name.to_string()]
+        }
+    }
+
+    fn zbb(&self) -> Option<&Zbb> {
+        Some(&self.zbb)
     }
 }
