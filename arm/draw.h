@@ -80,17 +80,32 @@ static inline uint32_t straight32(uint32_t bits)
     return (bits & ~0x7Fu) | opcode;
 }
 
-/* An RV64 instruction; one in `ends` is likely to end a block: of 16 bits anything, FENCE.I with any other fields,
- * jumps, branches, loads, stores, AMO, FP, SYSTEM, anything. */
+/* Of Zbb: with two registers or RORIW's number, with one register, or RORI. */
+static inline uint32_t zbb(uint32_t bits)
+{
+    static const uint32_t registers[] = {0x40007033, 0x40006033, 0x40004033, 0x0A006033, 0x0A007033, 0x0A004033,
+        0x0A005033, 0x60001033, 0x6000103B, 0x60005033, 0x6000503B, 0x6000501B};
+    static const uint32_t unary[] = {0x60001013, 0x6000101B, 0x60101013, 0x6010101B, 0x60201013, 0x6020101B,
+        0x60401013, 0x60501013, 0x0800403B, 0x28705013, 0x6B805013};
+    uint64_t kind = below(24);
+    if (kind < 12)
+        return registers[kind] | (bits & 0x01FF8F80);
+    return kind < 23 ? unary[kind - 12] | (bits & 0x000F8F80) : 0x60005013 | (bits & 0x03FF8F80);
+}
+
+/* An RV64 instruction; one in `ends` is likely to end a block: of 16 bits anything, a bit from Zbb, FENCE.I with any
+ * other fields, jumps, branches, loads, stores, AMO, FP, SYSTEM, anything. */
 static inline uint32_t instruction(uint64_t ends)
 {
     static const uint8_t others[] = {
         0x63, 0x6F, 0x67, 0x03, 0x03, 0x23, 0x23, 0x0F, 0x73, 0x2F, 0x07, 0x27, 0x43, 0x53};
     uint32_t bits = (uint32_t)draw();
     if (!one_in(ends))
-        return one_in(2) ? straight16(bits) : straight32(bits);
+        return one_in(2) ? straight16(bits) : one_in(3) ? zbb(bits) : straight32(bits);
     if (one_in(3))
         return bits & 0xFFFF;
+    if (one_in(16))
+        return zbb(bits) ^ UINT32_C(1) << below(32);
     if (one_in(20))
         return bits | 3;
     if (one_in(8))

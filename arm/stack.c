@@ -8,7 +8,7 @@
 static uint8_t stack[1 << 17] __attribute__((aligned(16)));
 static uint8_t guest[300], output[HILOFANUR_LONGEST_BLOCK], memory[2048], state[HILOFANUR_STATE],
     registers[HILOFANUR_REGISTERS];
-static uint8_t index_bytes[HILOFANUR_INDEX_BYTES], store[9000],
+static uint8_t index_bytes[HILOFANUR_INDEX_BYTES], store[2 * HILOFANUR_LONGEST_BLOCK],
     text[HILOFANUR_LONGEST_BLOCK / 4 * HILOFANUR_LONGEST_LINE];
 static uint8_t *top;
 static ucontext_t here, there;

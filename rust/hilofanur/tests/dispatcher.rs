@@ -11,6 +11,8 @@ use std::process::{Command, Output};
 const CENTROID: &str = include_str!("../examples/centroid/output.txt");
 const PATCH: &str = concat!(env!("CARGO_MANIFEST_DIR"), "/examples/patch/patch");
 const PATCHED: &str = include_str!("../examples/patch/output.txt");
+const HITS: &str = concat!(env!("CARGO_MANIFEST_DIR"), "/examples/hits/hits");
+const COUNTED: &str = include_str!("../examples/hits/output.txt");
 
 fn dispatcher(arguments: &[&str]) -> Output {
     let deps = std::env::current_exe().unwrap();
@@ -100,6 +102,23 @@ fn patched() {
     }
 }
 
+/// Bytes of the longest block of the program with Zbb, which is at 101d0.
+const LONGEST_HITS: usize = 748;
+
+/// The program that is built with Zbb: the same text and no difference, in a store that holds all blocks and in one that
+/// holds the longest.
+#[test]
+fn with_zbb() {
+    let whole = as_recorded(&[HITS], COUNTED);
+    let blocks = numbers(&whole, "blocks: ")[0];
+    let run = numbers(&whole, "run: ");
+    assert!(run[1] > 90_000, "{run:?}");
+    assert_eq!(numbers(&whole, "index: "), [blocks, run[0] - blocks, 0]);
+    let lines = as_recorded(&["--store", &LONGEST_HITS.to_string(), HITS], COUNTED);
+    assert_eq!(numbers(&lines, "run: "), run);
+    assert!(numbers(&lines, "index: ")[2] >= 10_000);
+}
+
 /// Where the index is kept, the old loop is run, and the instruction after the first FENCE.I; both runs differ.
 #[test]
 fn kept() {
@@ -133,10 +152,11 @@ fn arguments_that_do_not_do() {
         let text = Refusal::CodeLength.to_string();
         format!("dispatcher: place at {at}: {text}\n")
     };
-    let cases: [(&[&str], &str); 7] = [
+    let cases: [(&[&str], &str); 8] = [
         (&["--store", "316"], &refused("10252")),
         (&["--store", "0"], &refused("100e8")),
         (&["--store", "240", PATCH], &refused("101de")),
+        (&["--store", "744", HITS], &refused("101d0")),
         (&["--keep", "--stores", "316"], "dispatcher: --stores is no option\n"),
         (&["--store"], "dispatcher: --store wants a number of bytes\n"),
         (&["--store", "1k"], "dispatcher: 1k is no number of bytes up to 268435456\n"),
