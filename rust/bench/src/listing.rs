@@ -1,12 +1,12 @@
 //! The listing beside two plain writers: one of plain, exact pushes, one by `write!`.
 
+use crate::runs::translation;
 use crate::{row, SEED};
 use draw::guest::Guests;
 use draw::listing::plain_words;
-use draw::marked::LONG_PC;
-use draw::{Case, Random, LONGEST};
+use draw::zbb::plain_straight;
+use draw::Random;
 use hilofanur::{boundary, LONGEST_LINE};
-use oracle::expected;
 use std::hint::black_box;
 use steppers::{list, list_fmt, ListAnswer};
 
@@ -17,6 +17,8 @@ pub fn rows() {
     measure("List, 2048 blocks of 8", &short);
     measure("List, 4 blocks of 64", &long[..4]);
     measure("List, 4 blocks of 8", &short[..4]);
+    let zbb = (0..256).map(|_| translation(&plain_straight(&mut random, 64)));
+    measure("List, 256 blocks of 64, Zbb", &zbb.collect::<Vec<_>>());
     let mut words = |length, number| -> Vec<Vec<u8>> {
         (0..number).map(|_| plain_words(&mut random, length)).collect()
     };
@@ -36,14 +38,8 @@ pub fn rows() {
 
 /// The words of so many blocks of `length` guest instructions.
 fn translations(random: &mut Random, length: usize, number: usize) -> Vec<Vec<u8>> {
-    let (guests, mut output) = (Guests::default(), vec![0; LONGEST]);
-    let mut translation = || {
-        let case = Case { pc: LONG_PC, ..Case::new(&guests.plain_block(random, length), 64) };
-        let answer = expected(&case, &mut output);
-        assert_eq!((answer.refusal, answer.count as usize), (0, length));
-        output[..answer.length as usize].to_vec()
-    };
-    (0..number).map(|_| translation()).collect()
+    let guests = Guests::default();
+    (0..number).map(|_| translation(&guests.plain_block(random, length))).collect()
 }
 
 fn proved(block: &[u8], output: &mut [u8]) -> ListAnswer {

@@ -3,7 +3,9 @@
 use crate::{row, SEED};
 use draw::a64::plain_run;
 use draw::guest::Guests;
+use draw::marked::LONG_PC;
 use draw::values::registers;
+use draw::zbb::plain_straight;
 use draw::{Case, Random, LONGEST};
 use hilofanur::{boundary, Guest, Registers};
 use oracle::expected;
@@ -16,14 +18,23 @@ const MEMORY: usize = 0x4_0000;
 const MIDDLE: u64 = BASE + MEMORY as u64 / 2;
 
 pub fn rows() {
-    rv64(64, 256);
-    rv64(8, 2048);
-    rv64(64, 4);
-    rv64(8, 4);
-    a64(400, 40);
-    a64(16, 1024);
-    a64(400, 1);
-    a64(16, 4);
+    for (length, number) in [(64, 256), (8, 2048), (64, 4), (8, 4)] {
+        let guests = Guests::default();
+        let blocks = draw(number, |random| guests.plain_block(random, length));
+        rv64(&format!("RV64 run, {number} blocks of {length}"), length, &blocks);
+    }
+    for (length, number) in [(64, 256), (8, 2048), (64, 4)] {
+        let blocks = draw(number, |random| plain_straight(random, length));
+        rv64(&format!("RV64 run, {number} blocks of {length}, Zbb"), length, &blocks);
+    }
+    for (length, number) in [(400, 40), (16, 1024), (400, 1), (16, 4)] {
+        let blocks = draw(number, |random| plain_run(random, length));
+        a64(&format!("A64 run, {number} runs of {length}"), &blocks);
+    }
+    for (length, number) in [(64, 256), (8, 2048), (64, 4)] {
+        let blocks = draw(number, |random| translation(&plain_straight(random, length)));
+        a64(&format!("A64 run, {number} blocks of {length}, Zbb"), &blocks);
+    }
     no_word();
     behind_a_call();
     one_nop();
@@ -39,14 +50,27 @@ fn plain_rv64(block: &[u8], registers: &mut [u64; 32]) -> Rv64Answer {
     rv64_run(block, 0x1000, 64, false, registers)
 }
 
-/// Blocks of `length` instructions, so many of them, in turn.
-fn rv64(length: usize, number: usize) {
-    let (guests, mut random) = (Guests::default(), Random(SEED));
-    let block = |_| guests.plain_block(&mut random, length);
-    let blocks: Vec<Vec<u8>> = (0..number).map(block).collect();
+/// So many blocks, from the one seed.
+fn draw(number: usize, mut block: impl FnMut(&mut Random) -> Vec<u8>) -> Vec<Vec<u8>> {
+    let mut random = Random(SEED);
+    (0..number).map(|_| block(&mut random)).collect()
+}
+
+/// The words of a guest's block.
+pub fn translation(guest: &[u8]) -> Vec<u8> {
+    let mut output = vec![0; LONGEST];
+    let answer = expected(&Case { pc: LONG_PC, ..Case::new(guest, 64) }, &mut output);
+    assert_eq!(answer.refusal, 0);
+    output.truncate(answer.length as usize);
+    output
+}
+
+/// Blocks of `length` instructions, in turn.
+fn rv64(name: &str, length: usize, blocks: &[Vec<u8>]) {
+    let mut random = Random(SEED + 1);
     let mut plain = registers(|| random.next());
     let mut bytes = Registers { x: plain }.to_bytes();
-    for block in &blocks {
+    for block in blocks {
         let (mut plain, mut bytes) = (plain, bytes);
         let answer = plain_rv64(block, &mut plain);
         assert_eq!(answer.count as usize, length);
@@ -54,9 +78,9 @@ fn rv64(length: usize, number: usize) {
         assert_eq!(bytes, Registers { x: plain }.to_bytes());
     }
     row(
-        &format!("RV64 run, {number} blocks of {length}"),
-        (length * number, "instruction"),
-        &blocks,
+        name,
+        (length * blocks.len(), "instruction"),
+        blocks,
         |block| proved_rv64(block, &mut bytes),
         |block| plain_rv64(block, &mut plain),
     );
@@ -71,27 +95,26 @@ fn plain_a64(block: &[u8], state: &mut A64State, memory: &mut [u8]) -> A64Answer
     a64_run(block, 0, state, u64::MAX, memory, BASE)
 }
 
-/// Straight runs of `length` words, so many of them, in turn.
-fn a64(length: usize, number: usize) {
-    let mut random = Random(SEED);
-    let blocks: Vec<Vec<u8>> = (0..number).map(|_| plain_run(&mut random, length)).collect();
+/// Straight runs, in turn.
+fn a64(name: &str, blocks: &[Vec<u8>]) {
+    let mut random = Random(SEED + 1);
     let mut start = A64State { x: std::array::from_fn(|_| random.next()), sp: MIDDLE, nzcv: 0 };
     start.x[0] = MIDDLE;
     let start_bytes = start.to_bytes();
     let mut memory = random.bytes(MEMORY);
     let mut plain_memory = memory.clone();
-    for block in &blocks {
+    for block in blocks {
         let (mut plain, mut bytes) = (start, start_bytes);
         let answer = plain_a64(block, &mut plain, &mut plain_memory);
-        assert_eq!((answer.end, answer.steps), (steppers::RETURNED, length as u64));
+        assert_eq!((answer.end, answer.steps), (steppers::RETURNED, block.len() as u64 / 4));
         assert_eq!(answer, proved_a64(block, &mut bytes, &mut memory));
         assert_eq!(bytes, plain.to_bytes());
         assert!(memory == plain_memory);
     }
     row(
-        &format!("A64 run, {number} runs of {length}"),
-        (length * number, "word"),
-        &blocks,
+        name,
+        (blocks.iter().map(|block| block.len() / 4).sum(), "word"),
+        blocks,
         |block| {
             let mut bytes = start_bytes;
             (proved_a64(block, &mut bytes, &mut memory), bytes)
@@ -119,9 +142,7 @@ fn no_word() {
 /// What it costs to go on after the call of a helper: the five words of a block of seven C.NOP and LD x10, 8(x11).
 fn behind_a_call() {
     let guest = [&[1, 0].repeat(7)[..], &[0x03, 0xB5, 0x85, 0x00]].concat();
-    let mut block = vec![0; LONGEST];
-    let length = expected(&Case::new(&guest, 64), &mut block).length;
-    block.truncate(length as usize);
+    let block = translation(&guest);
     let mut start = A64State { x: [MIDDLE; 31], sp: MIDDLE, nzcv: 0 };
     let mut memory = vec![0; MEMORY];
     let call = plain_a64(&block, &mut start, &mut memory);

@@ -1,9 +1,11 @@
 //! Translate beside emuko's `compile_native_block`.
 
-use crate::{row, SEED};
+use crate::{alone, row, SEED};
 use draw::class::{first, Class};
 use draw::guest::Guests;
 use draw::marked::{DIV, HELPERS, LONG_PC as PC};
+use draw::marked_zbb::CPOPW;
+use draw::zbb::plain_straight;
 use draw::{Case, Random, LONGEST};
 use hilofanur::{boundary, Guest, Host};
 use oracle::{expected, translate, Answer};
@@ -33,11 +35,24 @@ pub fn rows() {
     let fenced: Vec<Vec<u8>> = (0..2048).map(|_| guests.plain_fenced(&mut random, 8)).collect();
     measure("Translate, 2048 blocks of 8, FENCE.I", (8, 8), &fenced);
     measure_real("Translate, the guests' own blocks", &[CENTROID, PATCH]);
+    let mut zbb = |length: usize, number: usize| -> Vec<Vec<u8>> {
+        (0..number).map(|_| plain_straight(&mut random, length)).collect()
+    };
+    measure_alone("Translate, 64 CPOPW", 64, &[CPOPW.repeat(64)]);
+    measure_alone("Translate, 256 blocks of 64, Zbb", 64, &zbb(64, 256));
+    measure_alone("Translate, 2048 blocks of 8, Zbb", 8, &zbb(8, 2048));
+    measure_alone("Translate, 4096 single ones of Zbb", 1, &zbb(1, 4096));
+    let blocks = real_compared(&[HITS]);
+    let (name, mut output) = ("Translate, the Zbb guest's own blocks", vec![0; LONGEST]);
+    alone(name, (blocks.len(), "block"), &blocks, |(bytes, pc)| {
+        proved_at(bytes, *pc, black_box(&mut output))
+    });
 }
 
-/// The guests of the example dispatchers.
+/// The guests of the example dispatchers. The Rust does not take the third one's Zbb.
 const CENTROID: &[u8] = include_bytes!("../../hilofanur/examples/centroid/centroid");
 const PATCH: &[u8] = include_bytes!("../../hilofanur/examples/patch/patch");
+const HITS: &[u8] = include_bytes!("../../hilofanur/examples/hits/hits");
 
 /// The sections of an ELF64 file that have code: their addresses and bytes.
 fn code(file: &[u8]) -> Vec<(u64, &[u8])> {
@@ -70,7 +85,8 @@ fn real(file: &[u8]) -> Vec<(Vec<u8>, u64)> {
     found
 }
 
-fn measure_real(name: &str, files: &[&[u8]]) {
+/// The blocks of the guests, each as it must be.
+fn real_compared(files: &[&[u8]]) -> Vec<(Vec<u8>, u64)> {
     let blocks: Vec<_> = files.iter().flat_map(|file| real(file)).collect();
     let (mut one, mut other) = (vec![0; LONGEST], vec![0; LONGEST]);
     for (bytes, pc) in &blocks {
@@ -78,6 +94,12 @@ fn measure_real(name: &str, files: &[&[u8]]) {
         assert_eq!(answer, expected(&Case { pc: *pc, ..Case::new(bytes, LIMIT) }, &mut other));
         assert!(answer.refusal == 0 && one == other);
     }
+    blocks
+}
+
+fn measure_real(name: &str, files: &[&[u8]]) {
+    let blocks = real_compared(files);
+    let (mut one, mut other) = (vec![0; LONGEST], vec![0; LONGEST]);
     row(
         name,
         (blocks.len(), "block"),
@@ -103,17 +125,32 @@ fn plain(bytes: &[u8], limit: u32, output: &mut [u8]) -> Answer {
     translate(bytes, PC, limit, false, HOST.slot_offset, HELPERS, output)
 }
 
-/// Compares what both answer, then measures. The Rust is asked at the limit given: it does not end a block by FENCE.I.
-fn measure(name: &str, (count, limit): (usize, u32), blocks: &[Vec<u8>]) {
+/// Compares the blocks with what they must be: each has so many instructions.
+fn compare(count: usize, blocks: &[Vec<u8>]) {
     let (mut one, mut other) = (vec![0; LONGEST], vec![0; LONGEST]);
     for block in blocks {
         let answer = proved(block, &mut one);
         assert_eq!((answer.refusal, answer.count as usize), (0, count));
-        let asked = plain(block, limit, &mut other);
-        assert_eq!(answer, Answer { end: answer.end, ..asked });
-        let case = Case { pc: PC, ..Case::new(block, LIMIT) };
-        assert_eq!(answer, expected(&case, &mut other));
+        assert_eq!(answer, expected(&Case { pc: PC, ..Case::new(block, LIMIT) }, &mut other));
         assert!(one == other);
+    }
+}
+
+/// Compares, then measures the library alone: the Rust does not take Zbb.
+fn measure_alone(name: &str, count: usize, blocks: &[Vec<u8>]) {
+    compare(count, blocks);
+    let mut output = vec![0; LONGEST];
+    let units = (count * blocks.len(), "instruction");
+    alone(name, units, blocks, |block| proved(block, black_box(&mut output)));
+}
+
+/// Compares what both answer, then measures. The Rust is asked at the limit given: it does not end a block by FENCE.I.
+fn measure(name: &str, (count, limit): (usize, u32), blocks: &[Vec<u8>]) {
+    compare(count, blocks);
+    let (mut one, mut other) = (vec![0; LONGEST], vec![0; LONGEST]);
+    for block in blocks {
+        let (answer, asked) = (proved(block, &mut one), plain(block, limit, &mut other));
+        assert_eq!(answer, Answer { end: answer.end, ..asked });
     }
     row(
         name,
