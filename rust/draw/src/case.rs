@@ -193,6 +193,18 @@ mod tests {
         (classes, behind)
     }
 
+    /// The questions of one seed that refusals 2, 4 and 5 leave, each with its walk and its limit as clamped.
+    fn left() -> impl Iterator<Item = (Case, Vec<Class>, bool, usize)> {
+        let (guests, mut random) = (Guests::default(), Random(1));
+        (0..40_000).filter_map(move |_| {
+            let case = guests.case(&mut random);
+            let (classes, behind) = walk(&case);
+            let limit = case.limit.min(64) as usize;
+            let refused = limit == 0 || matches!(classes.first(), None | Some(Class::Uncovered));
+            (!refused).then_some((case, classes, behind, limit))
+        })
+    }
+
     /// A helper's instruction ends each of these, where it is said to stand; every prefix and PCs across 2^64 are
     /// among them.
     #[test]
@@ -221,16 +233,9 @@ mod tests {
     /// has it.
     #[test]
     fn fence_i_in_every_place() {
-        let (guests, mut random) = (Guests::default(), Random(1));
         let (mut blocks, mut dropped) = (0, 0);
         let mut places = [0; 8];
-        for _ in 0..40_000 {
-            let case = guests.case(&mut random);
-            let (classes, behind) = walk(&case);
-            let limit = case.limit.min(64) as usize;
-            if limit == 0 || matches!(classes.first(), None | Some(Class::Uncovered)) {
-                continue;
-            }
+        for (_, classes, behind, limit) in left() {
             blocks += 1;
             let (number, last) = (classes.len(), classes[classes.len() - 1]);
             let fence_i = last == Class::FenceI;
@@ -255,15 +260,8 @@ mod tests {
     /// them, and it stands where the list has it.
     #[test]
     fn zbb_in_every_place() {
-        let (guests, mut random) = (Guests::default(), Random(1));
         let (mut blocks, mut places, mut met) = (0, [0; 9], [0; zbb::FORMS.len()]);
-        for _ in 0..40_000 {
-            let case = guests.case(&mut random);
-            let (classes, _) = walk(&case);
-            let limit = case.limit.min(64) as usize;
-            if limit == 0 || matches!(classes.first(), None | Some(Class::Uncovered)) {
-                continue;
-            }
+        for (case, classes, _, limit) in left() {
             blocks += 1;
             let last = classes[classes.len() - 1];
             let count = (classes.len() - (last == Class::Uncovered) as usize).min(limit);

@@ -1,4 +1,4 @@
-//! Instruction forms: document 01's rules 2, 4 and 7 for RV64; for A64 its 24 forms and the six of document 02's No. 7.
+//! Instruction forms: document 01's rules 2, 4 and 7 for RV64; for A64 its 24 forms and document 02's six of No. 7.
 
 use crate::Random;
 

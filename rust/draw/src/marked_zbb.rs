@@ -170,7 +170,7 @@ mod tests {
     #[test]
     fn each_instruction_once() {
         let kinds = WORDS.map(|(_, instr, _)| kind(instr));
-        assert_eq!(kinds, std::array::from_fn(|number| Some(number)));
+        assert_eq!(kinds, std::array::from_fn(Some));
         for ((text, _, words), (name, _)) in WORDS.into_iter().zip(FORMS) {
             assert_eq!(text.split(' ').next().unwrap().to_uppercase(), name);
             assert!(words.len() <= 30, "{text}");

@@ -228,8 +228,8 @@ pub struct A64Run {
 /// arithmetic and SYSTEM, end a block before them, and the caller does them.
 ///
 /// FENCE.I, whatever its fields beside opcode and funct3, ends the block: it is counted, and the next PC is the one
-/// after it. FENCE goes on. With [`block_bytes`] of the limit, and so with [`LONGEST_BLOCK`] bytes of output, refusal 6
-/// does not occur.
+/// after it. FENCE goes on. With [`block_bytes`] of the limit, and so with [`LONGEST_BLOCK`] bytes of output,
+/// refusal 6 does not occur.
 ///
 /// # Errors
 /// Refusals 1 to 6.

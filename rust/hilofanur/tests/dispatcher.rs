@@ -105,8 +105,8 @@ fn patched() {
 /// Bytes of the longest block of the program with Zbb, which is at 101d0.
 const LONGEST_HITS: usize = 748;
 
-/// The program that is built with Zbb: the same text and no difference, in a store that holds all blocks and in one that
-/// holds the longest.
+/// The program that is built with Zbb: the same text and no difference, in a store that holds all blocks and in one
+/// that holds the longest.
 #[test]
 fn with_zbb() {
     let whole = as_recorded(&[HITS], COUNTED);

@@ -140,6 +140,15 @@ static void use_index(void)
     printf("index bytes %zu\n", sizeof index);
 }
 
+static void others(void)
+{
+    use_index();
+    end_kinds();
+    call();
+    ends();
+    block_bytes();
+}
+
 int main(void)
 {
     uint8_t output[HILOFANUR_LONGEST_BLOCK];
@@ -173,11 +182,7 @@ int main(void)
     listed = hilofanur_list(zeros, sizeof zeros, listing, 0);
     printf("refused %" PRIu64 " %d\n", listed.refusal, listed.offset == 0 || listed.offset == 4);
     printf("refused %" PRIu64 "\n", hilofanur_list(output, block.length, listing, length - 1).refusal);
-    use_index();
-    end_kinds();
-    call();
-    ends();
-    block_bytes();
+    others();
     printf("version %s\n", HILOFANUR_VERSION);
     return 0;
 }

@@ -1,5 +1,5 @@
-//! Document 02, No. 7: Zbb inline. The marked blocks are in marked_blocks.rs; here are both runs on drawn values, what is
-//! next to Zbb, the listing's texts, and the most bytes of a block.
+//! Document 02, No. 7: Zbb inline. The marked blocks are in marked_blocks.rs; here are both runs on drawn values, what
+//! is next to Zbb, the listing's texts, and the most bytes of a block.
 
 use draw::forms::encode;
 use draw::guest::Guests;
@@ -18,8 +18,8 @@ fn guest(bytes: &[u8], limit: u32) -> Guest<'_> {
     Guest { bytes, pc: 0x1000, limit, ignore_ebreak: false }
 }
 
-/// Translates into as many bytes as the limit may need, and runs the words and the guest: both come to the registers of
-/// the plain stepper.
+/// Translates into as many bytes as the limit may need, and runs the words and the guest: both come to the registers
+/// of the plain stepper.
 fn runs(bytes: &[u8], limit: u32, before: Registers) {
     let guest = guest(bytes, limit);
     let mut output = vec![0; block_bytes(limit)];
@@ -134,7 +134,7 @@ fn most_bytes_are_enough() {
     assert!(accepted > 10_000 && with_zbb > 3_000, "{accepted} {with_zbb}");
     for limit in 1..=64 {
         let bytes = CPOPW.repeat(64);
-        let asked = Guest { pc: u64::MAX / 3 & !1, ..guest(&bytes, limit) };
+        let asked = Guest { pc: (u64::MAX / 3) & !1, ..guest(&bytes, limit) };
         let block = translate(&asked, &HOST, &mut vec![0; block_bytes(limit)]).unwrap();
         assert_eq!(block.length, 4 * (30 * limit as usize + 6));
     }

@@ -1,6 +1,6 @@
 //! The recorded answers: cases drawn from a fixed seed, each with what the Rust says of it; of blocks that FENCE.I
-//! ends, with their count as the limit; of those that reach Zbb, with its words. The README describes the files byte by
-//! byte.
+//! ends, with their count as the limit; of those that reach Zbb, with its words. The README describes the files byte
+//! by byte.
 
 mod zbb_cases;
 
