@@ -62,7 +62,7 @@ static uint8_t *at(struct machine *m, uint64_t address, uint64_t size)
     return from < m->size && size <= m->size - from ? m->bytes + from : NULL;
 }
 
-/* operation as the memory helper has it. Slot 0 may be written: nothing reads it. */
+/* operation as the memory helper has it. Slot 0 may be written: no block reads it, and helper16 takes 0 for it. */
 static void access_memory(
     struct hart *h, struct machine *m, uint64_t operation, uint64_t rd, uint64_t value, uint64_t address)
 {
@@ -117,14 +117,15 @@ static struct hilofanur_next helper16(
     struct hart *h = (struct hart *)hart;
     struct machine *m = (struct machine *)machine;
     bool is_double = i >> 13 & 1, store = i >> 15 & 1, stack = (i & 3) == 2;
-    uint64_t base = stack ? 2 : (i >> 7 & 7) + 8, low = stack ? i >> 2 & 31 : (i >> 2 & 7) + 8;
+    uint64_t base = stack ? 2 : (i >> 7 & 7) + 8, low = stack ? i >> 2 & 31 : (i >> 2 & 7) + 8,
+             value = store && low ? h->x[low] : 0; /* C.SWSP and C.SDSP may store register 0 */
     (void)c, (void)d, (void)e;
     compare_registers(m, h, pc);
     if (!(i >> 14 & 1)) {
         m->fault = "FP of 16 bits, which this dispatcher has not";
         return (struct hilofanur_next){pc, 0};
     }
-    access_memory(h, m, 2 + is_double + 16 * store, stack && !store ? i >> 7 & 31 : low, store ? h->x[low] : 0,
+    access_memory(h, m, 2 + is_double + 16 * store, stack && !store ? i >> 7 & 31 : low, value,
         h->x[base] + offset16(i, is_double, store));
     return (struct hilofanur_next){pc + 2, 1};
 }

@@ -114,7 +114,8 @@ typedef struct hilofanur_next hilofanur_memory_helper(
     uint64_t a, uint64_t b, uint64_t c, uint64_t operation, uint64_t rd, uint64_t value, uint64_t address,
     uint64_t pc);
 
-/* The helper for other instructions of 32 bits, and the one for those of 16 bits. */
+/* The helper for other instructions of 32 bits, and the one for those of 16 bits. They find registers in the slots,
+ * but for register 0, which is 0: C.SWSP and C.SDSP may store it. */
 typedef struct hilofanur_next hilofanur_helper(
     uint64_t a, uint64_t b, uint64_t c, uint64_t d, uint64_t e, uint64_t instruction, uint64_t pc);
 #endif
