@@ -1,6 +1,6 @@
 // The operations over the C boundary: numbers and byte slices.
 ghost use mathlib.Core.Path.{_≡_};
-ghost use lib.ListN.{take};
+ghost use lib.ListN.{length, take};
 ghost use Rattle.translation.specs.Demand3.{HelperFree, Demand3};
 ghost use Rattle.translation.specs.HelperBlock.{HelperEnded, HelperBlock};
 ghost use Rattle.translation.specs.RustBlock.{ZbbFree, RustBlock};
