@@ -88,9 +88,13 @@ module _ (h : Host) (pc instr : ℕ) where
   unfolding emit-inline zbb-of zbb-first emit-native
   inline16 low e n = rw (ne-eqb (instr % 4) 3 n, e) refl
 
-  pub inline32 : (d : Decoded32) → d ≡ decode32 instr → instr % 4 ≡ 3 → find instr ≡ Found.Nothing → emit-inline product h pc instr ≡ emit-native-instr pc instr d
-  unfolding emit-inline zbb-of zbb-first emit-native
-  inline32 d e n f = rw (eq-eqb (instr % 4) 3 n, f, e) refl
+  pub native32 : (d : Decoded32) → d ≡ decode32 instr → instr % 4 ≡ 3 → emit-native h pc instr ≡ emit-native-instr pc instr d
+  unfolding emit-native
+  native32 d e n = rw (eq-eqb (instr % 4) 3 n, e) refl
+
+  pub inline-rust : instr % 4 ≡ 3 → find instr ≡ Found.Nothing → emit-inline product h pc instr ≡ emit-native h pc instr
+  unfolding emit-inline zbb-of zbb-first
+  inline-rust n f = rw (eq-eqb (instr % 4) 3 n, f) refl
 
   pub inline-zbb : instr % 4 ≡ 3 → (find instr ≡ Found.Nothing → ⊥) → emit-inline product h pc instr ≡ emission (find instr) instr
   unfolding emit-inline zbb-of
@@ -296,11 +300,18 @@ module _ (slot-offset : ℕ) where
       rw (a .0) (emits .words ∙ emitted-all-new left (groups slot-offset (helper .calls)) (q ∙ rw (a .0)) (a .2))
 
   -- what the code's emitters answer
+  compiled-as : (x : Emission) → size slot-offset (x .calls) ≤ inline-words → {e : Emission} {new : List ℕ} {out : Emitted} {l : List ℕ} → x ≡ e → new ≡ [] → Emits slot-offset new e out l
+      → Compiled slot-offset (x .calls) (x .flow) out l
+  compiled-as x few {e} {new} {out} {l} q n emits =
+      let small = rw q at few in rw q (record { long = emits .long; holds = alone new e out l n emits small; flow = emits .flow })
+
   pub compiled : (h : Host) (pc instr : ℕ) {e : Emission} {new : List ℕ} {out : Emitted} {l : List ℕ} → emit-inline product h pc instr ≡ e → new ≡ [] → Emits slot-offset new e out l
       → Compiled slot-offset (emit-inline product h pc instr .calls) (emit-inline product h pc instr .flow) out l
-  compiled h pc instr {e} {new} {out} {l} q n emits =
-      let few = rw q at (inline-size h pc instr) in
-      rw q (record { long = emits .long; holds = alone new e out l n emits few; flow = emits .flow })
+  compiled h pc instr = compiled-as (emit-inline product h pc instr) (inline-size h pc instr)
+
+  pub rust-compiled : (h : Host) (pc instr : ℕ) {e : Emission} {new : List ℕ} {out : Emitted} {l : List ℕ} → emit-native h pc instr ≡ e → new ≡ [] → Emits slot-offset new e out l
+      → Compiled slot-offset (emit-native h pc instr .calls) (emit-native h pc instr .flow) out l
+  rust-compiled h pc instr = compiled-as (emit-native h pc instr) (native-size h pc instr)
 
   pub compiled-helper : (h : Host) (pc instr k : ℕ) {helper : Emission} {left : List ℕ} {out : Emitted} {l : List ℕ} → k < 65536 → emit-term-helper h pc instr k ≡ helper
       → left ≡ words slot-offset (emit-inline product h pc instr .calls) → Emits slot-offset left helper out l

@@ -10,7 +10,7 @@ ghost use Rattle.isa.specs.declared.zbb.Found.{Found};
 ghost use Rattle.isa.specs.Zbb.{find};
 ghost use Rattle.emit_native.specs.Calls as Calls;
 ghost use Rattle.emit_native.specs.Calls.{product};
-ghost use Rattle.jit_arm64.specs.Block.{emit-inline, emit-term-helper};
+ghost use Rattle.jit_arm64.specs.Block.{emit-native, emit-inline, emit-term-helper};
 ghost use Rattle.jit_arm64.specs.Fence.{is-fence-i};
 ghost use Rattle.jit_arm64.specs.Parts.{Narrow, Compiled, Walking, Onward, Partly, ShortOf, LongOf, sets-next, has-return, helped-count, helped-stop, is-full};
 use crate::fetch::fetch;
@@ -71,29 +71,28 @@ fn may_be_zbb(instr: u32) -> bool
     }
 }
 
-// The inline words of an instruction of 32 bits: Zbb first, and the Rust's emitter after it.
-fn emit_zbb_first(words: &mut [u32; INSTR_WORDS], host: Host, pc: u64, instr: u32) -> Emitted
-    requires { ⌜ (host .«slot_offset» ≤ max-slot-offset) × (instr % 4 ≡ 3) × InstrArray (now words) ⌝ }
+// Zbb's words, or what the Rust's emitter left where it refused the instruction.
+fn emit_zbb(
+    out: Emitted,
+    words: &mut [u32; INSTR_WORDS],
+    host: Host,
+    pc: u64,
+    instr: u32,
+) -> Emitted
+    requires { ⌜ (host .«slot_offset» ≤ max-slot-offset) × (instr % 4 ≡ 3) × InstrArray (now words) × Compiled (host .«slot_offset») (emit-native host pc instr .calls) (emit-native host pc instr .flow) out (now words) ⌝ }
     ensures { λ r. ⌜ Compiled (host .«slot_offset») (emit-inline product host pc instr .calls) (emit-inline product host pc instr .flow) r (now (words .exit)) ⌝ }
 {
-    let out = zbb::emit_native_zbb(InstrEmitter::new(), words, host.slot_offset, instr);
-    let flow = out.flow;
+    let found = zbb::emit_native_zbb(InstrEmitter::new(), words, host.slot_offset, instr);
+    let flow = found.flow;
     if let EmitFlow::None = flow {
-        let d = isa::decode::decode32(instr);
-        return instr32::emit_native_instr(
-            InstrEmitter::new(),
-            words,
-            host.slot_offset,
-            pc,
-            instr,
-            d,
-        );
+        return out;
     }
-    out
+    found
 }
 
 // The inline words of an instruction, by its width, at the front of `words`. The Rust's emitter refuses every Zbb
-// instruction, so that its answer stands where it is another: a block without Zbb does not pay for Zbb.
+// instruction, so that its answer stands where it is another, and a block without Zbb does not pay for Zbb. Where it
+// refuses, Zbb's words come from a new emitter, and what the Rust left stays where it is no Zbb instruction.
 fn emit_native(words: &mut [u32; INSTR_WORDS], host: Host, pc: u64, instr: u32) -> Emitted
     requires { ⌜ (host .«slot_offset» ≤ max-slot-offset) × Narrow instr × InstrArray (now words) ⌝ }
     ensures { λ r. ⌜ Compiled (host .«slot_offset») (emit-inline product host pc instr .calls) (emit-inline product host pc instr .flow) r (now (words .exit)) ⌝ }
@@ -114,7 +113,7 @@ fn emit_native(words: &mut [u32; INSTR_WORDS], host: Host, pc: u64, instr: u32) 
     let flow = out.flow;
     if let EmitFlow::None = flow {
         if may_be_zbb(instr) {
-            return emit_zbb_first(words, host, pc, instr);
+            return emit_zbb(out, words, host, pc, instr);
         }
     }
     out

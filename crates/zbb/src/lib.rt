@@ -1,10 +1,12 @@
 // `emit_native_zbb`: the words of Zbb instructions (document 02, No. 7). Those with rs1 and rs2 stand here.
 ghost use mathlib.Core.List.{[], _∷_};
+ghost use mathlib.Core.Path.{_≡_};
 ghost use Prim.Native.Nat.{_<_, _≤_};
 ghost use Rattle.rules.specs.Limits.{max-slot-offset};
 ghost use Rattle.a64_emitter.specs.Parts.{held, InstrArray};
 ghost use Rattle.isa.specs.Zbb.{find};
 ghost use Rattle.emit_native.specs.Calls.{emit};
+ghost use Rattle.emit_native.specs.declared.EmitFlow.{EmitFlow};
 ghost use Rattle.emit_native.specs.Parts.{Emits};
 ghost use Rattle.zbb.specs.Words as W;
 ghost use Rattle.zbb.specs.Emission.{emission};
@@ -96,7 +98,7 @@ fn rotated(
     finish(em, words, slot_offset, instr)
 }
 
-// A Zbb instruction; no words and no flow for any other.
+// A Zbb instruction; for any other no words, and the array as it was.
 pub fn emit_native_zbb(
     em: InstrEmitter,
     words: &mut [u32; INSTR_WORDS],
@@ -105,6 +107,7 @@ pub fn emit_native_zbb(
 ) -> Emitted
     requires { ⌜ («slot_offset» ≤ max-slot-offset) × InstrArray (now words) ⌝ }
     ensures { λ r. ⌜ Emits «slot_offset» (held em (now (words .entry))) (emission (find instr) instr) r (now (words .exit)) ⌝ }
+    ensures { λ r. ⌜ (r .flow ≡ EmitFlow.None → now (words .exit) ≡ now (words .entry)) ⌝ }
 {
     match isa::zbb::funct7_key(instr) {
         // ANDN, ORN, XNOR

@@ -1,4 +1,5 @@
 // The instructions with rs1 and a number: RORI and RORIW.
+ghost use mathlib.Core.Path.{_≡_};
 ghost use Prim.Native.Nat.{_≤_};
 ghost use Rattle.rules.specs.Limits.{max-slot-offset};
 ghost use Rattle.a64_emitter.specs.Parts.{held, InstrArray};
@@ -6,6 +7,7 @@ ghost use Rattle.isa.specs.declared.zbb.Zbb.{Zbb};
 ghost use Rattle.isa.specs.declared.zbb.Found.{Found};
 ghost use Rattle.isa.specs.Formats.{inst};
 ghost use Rattle.isa.specs.Zbb.{shift-of};
+ghost use Rattle.emit_native.specs.declared.EmitFlow.{EmitFlow};
 ghost use Rattle.emit_native.specs.Parts.{Emits};
 ghost use Rattle.zbb.specs.Emission.{emission};
 use crate::fields::finish;
@@ -44,6 +46,7 @@ pub fn emit_rori(
 ) -> Emitted
     requires { ⌜ («slot_offset» ≤ max-slot-offset) × InstrArray (now words) ⌝ }
     ensures { λ r. ⌜ Emits «slot_offset» (held em (now (words .entry))) (emission (shift-of instr) instr) r (now (words .exit)) ⌝ }
+    ensures { λ r. ⌜ (r .flow ≡ EmitFlow.None → now (words .exit) ≡ now (words .entry)) ⌝ }
 {
     if isa::zbb::funct6_key(instr) != 0b011000_101_0010011 {
         return none(em);

@@ -1,5 +1,6 @@
 // The instructions with rs1 alone.
 ghost use mathlib.Core.List.{[], _∷_};
+ghost use mathlib.Core.Path.{_≡_};
 ghost use Prim.Native.Nat.{_≤_};
 ghost use Rattle.rules.specs.Limits.{max-slot-offset};
 ghost use Rattle.a64_emitter.specs.Parts.{held, InstrArray};
@@ -7,6 +8,7 @@ ghost use Rattle.isa.specs.declared.zbb.Zbb.{Zbb};
 ghost use Rattle.isa.specs.declared.zbb.Found.{Found};
 ghost use Rattle.isa.specs.Zbb.{unary-of};
 ghost use Rattle.emit_native.specs.Calls.{emit};
+ghost use Rattle.emit_native.specs.declared.EmitFlow.{EmitFlow};
 ghost use Rattle.emit_native.specs.Parts.{Emits};
 ghost use Rattle.zbb.specs.Words as W;
 ghost use Rattle.zbb.specs.Emission.{emission};
@@ -147,6 +149,7 @@ pub fn emit_unary(
 ) -> Emitted
     requires { ⌜ («slot_offset» ≤ max-slot-offset) × InstrArray (now words) ⌝ }
     ensures { λ r. ⌜ Emits «slot_offset» (held em (now (words .entry))) (emission (unary-of instr) instr) r (now (words .exit)) ⌝ }
+    ensures { λ r. ⌜ (r .flow ≡ EmitFlow.None → now (words .exit) ≡ now (words .entry)) ⌝ }
 {
     match isa::zbb::funct12_key(instr) {
         // CLZ, CTZ, CPOP
