@@ -51,7 +51,7 @@ fn agrees(fd: i32, guest: &[u8], asked: &[u8; 49], output: &mut [u8], expected: 
     whole && same_answer(answer, &found) && check::same(output, expected)
 }
 
-// The output is as long as the case says. The files offer 7,452 bytes at most; more than 8,192 would count as differing.
+// The output is as long as the case says. The files offer 7,704 bytes at most; more than 8,192 would count as differing.
 fn replay_question(fd: i32, guest: &[u8]) -> bool {
     let mut asked = [0u8; 49];
     if io::read_full(fd, &mut asked) < 49 {
