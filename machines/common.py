@@ -95,18 +95,22 @@ def led_to(signal, pc, target):
     return signal in (5, 7, 11) and (pc - target) % 2**56 == 0
 
 
-def disassembly(objdump, flags, code):
-    """Mnemonic and operands at each offset, as binutils reads the code."""
-    with open("code.bin", "wb") as file:
-        file.write(code)
-    lines = subprocess.run([objdump, "-b", "binary", "-D", *flags, "code.bin"],
-                           capture_output=True, text=True, check=True).stdout.splitlines()
+def listed(command):
+    """Mnemonic and operands at each offset, as this objdump says them."""
+    lines = subprocess.run(command, capture_output=True, text=True, check=True).stdout.splitlines()
     found = {}
     for line in lines:
         parts = line.split("\t")
         if len(parts) >= 3 and parts[0].strip().endswith(":"):
             found[int(parts[0].strip()[:-1], 16)] = [part.strip() for part in parts[2:]]
     return found
+
+
+def disassembly(objdump, flags, code):
+    """Mnemonic and operands at each offset, as binutils reads the code."""
+    with open("code.bin", "wb") as file:
+        file.write(code)
+    return listed([objdump, "-b", "binary", "-D", *flags, "code.bin"])
 
 
 def disassemble(objdump, flags, code):

@@ -1,15 +1,16 @@
 """Makes the RV64 cases, has the machine run them, and writes the record. Use: rv64.py PROGRAM RECORD
 
-The encodings are those of the RISC-V Unprivileged ISA (instruction listings; chapter "C");
+The encodings are those of the RISC-V Unprivileged ISA (instruction listings; chapters "C" and "B", there Zbb);
 binutils reads every one back, and its mnemonic must be the case's kind.
 """
 
 import struct
+import subprocess
 import sys
 from collections import Counter
 from dataclasses import dataclass, field
 
-from common import EDGES, M64, Random, default, disassemble, machine, pairs, write
+from common import EDGES, M64, Random, default, listed, machine, pairs, write
 
 rng = Random(0x5256_3634)
 
@@ -24,6 +25,7 @@ class Instr:
     code: bytes
     offset: int | None = None  # JAL, branches: where to, from the PC
     base: tuple | None = None  # JALR: register and immediate
+    zeros: int | None = None  # CTZW: the register whose low word's trailing zeros it counts
 
     def jumps(self):
         return self.offset is not None or self.base is not None
@@ -80,12 +82,21 @@ OP_IMM = {"addi": (0x13, 0), "slti": (0x13, 2), "sltiu": (0x13, 3), "xori": (0x1
           "ori": (0x13, 6), "andi": (0x13, 7), "addiw": (0x1B, 0)}
 SHIFT_IMM = {"slli": (0x13, 1, 0, 64), "srli": (0x13, 5, 0, 64), "srai": (0x13, 5, 32, 64),
              "slliw": (0x1B, 1, 0, 32), "srliw": (0x1B, 5, 0, 32), "sraiw": (0x1B, 5, 32, 32)}
+# Zbb: with rs2 (opcode, funct3, funct7), with rs1 alone (opcode, funct3, funct12), with a count as SHIFT_IMM.
+ZBB = {k: (0x33, f3, f7) for k, f3, f7 in [
+    ("andn", 7, 0x20), ("orn", 6, 0x20), ("xnor", 4, 0x20), ("min", 4, 5), ("minu", 5, 5), ("max", 6, 5),
+    ("maxu", 7, 5), ("rol", 1, 0x30), ("ror", 5, 0x30)]}
+ZBB |= {"rolw": (0x3B, 1, 0x30), "rorw": (0x3B, 5, 0x30)}
+ZBB_ONE = {"clz": (0x13, 1, 0x600), "ctz": (0x13, 1, 0x601), "cpop": (0x13, 1, 0x602), "sext.b": (0x13, 1, 0x604),
+           "sext.h": (0x13, 1, 0x605), "orc.b": (0x13, 5, 0x287), "rev8": (0x13, 5, 0x6B8),
+           "clzw": (0x1B, 1, 0x600), "ctzw": (0x1B, 1, 0x601), "cpopw": (0x1B, 1, 0x602), "zext.h": (0x3B, 4, 0x080)}
+ZBB_IMM = {"rori": (0x13, 5, 0x30, 64), "roriw": (0x1B, 5, 0x30, 32)}
 BRANCH = {"beq": 0, "bne": 1, "blt": 4, "bge": 5, "bltu": 6, "bgeu": 7}
 UPPER = {"lui": 0x37, "auipc": 0x17}
 
 
 def op(kind, rd, rs1, rs2):
-    opcode, f3, f7 = OP[kind]
+    opcode, f3, f7 = (OP | ZBB)[kind]
     return word(kind, f7 << 25 | rs2 << 20 | rs1 << 15 | f3 << 12 | rd << 7 | opcode)
 
 
@@ -94,8 +105,13 @@ def op_imm(kind, rd, rs1, imm):
     return word(kind, (imm & 0xFFF) << 20 | rs1 << 15 | f3 << 12 | rd << 7 | opcode)
 
 
+def one_operand(kind, rd, rs1):
+    opcode, f3, f12 = ZBB_ONE[kind]
+    return word(kind, f12 << 20 | rs1 << 15 | f3 << 12 | rd << 7 | opcode, zeros=rs1 if kind == "ctzw" else None)
+
+
 def shift_imm(kind, rd, rs1, shamt):
-    opcode, f3, f7, width = SHIFT_IMM[kind]
+    opcode, f3, f7, width = (SHIFT_IMM | ZBB_IMM)[kind]
     assert shamt < width
     return word(kind, f7 << 25 | shamt << 20 | rs1 << 15 | f3 << 12 | rd << 7 | opcode)
 
@@ -432,6 +448,22 @@ def straight(few):
     return cr(kind, nonzero, rng.pick(few))
 
 
+def zbb(few):
+    """Any instruction of Zbb."""
+    rd, rs1, rs2 = register(few), register(few), register(few)
+    kind = rng.pick([*ZBB, *ZBB_ONE, *ZBB_IMM])
+    if kind in ZBB:
+        return op(kind, rd, rs1, rs2)
+    if kind in ZBB_ONE:
+        return one_operand(kind, rd, rs1)
+    return shift_imm(kind, rd, rs1, rng.below(ZBB_IMM[kind][3]))
+
+
+def mixed(few):
+    """Zbb's among the others."""
+    return zbb(few) if rng.below(2) else straight(few)
+
+
 def jump(few):
     """Any jump or branch; those that go back may go into the block."""
     kind = rng.pick(["jal", "jalr", *BRANCH, "c.j", "c.beqz", "c.bnez", "c.jr", "c.jalr"])
@@ -469,9 +501,9 @@ def few_registers():
     return rng.distinct([1, 2, 5, 17, 31], 2) + rng.distinct(MARKED, 3)
 
 
-def block(longest):
+def block(longest, one=straight):
     few = few_registers()
-    instrs = [straight(few) for _ in range(rng.between(1, longest - 1))]
+    instrs = [one(few) for _ in range(rng.between(1, longest - 1))]
     tail = b""
     pc = anywhere()
     match rng.below(8):
@@ -479,14 +511,14 @@ def block(longest):
             # A jump or branch ends it; more code may follow.
             instrs.append(jump(few))
             limit = rng.between(len(instrs), 255) if rng.below(2) else len(instrs)
-            tail = b"".join(straight(few).code for _ in range(rng.below(3)))
+            tail = b"".join(one(few).code for _ in range(rng.below(3)))
         case 4 | 5:
             # The limit ends it, with instructions left.
-            instrs.append(straight(few) if rng.below(2) else jump(few))
+            instrs.append(one(few) if rng.below(2) else jump(few))
             limit = rng.between(1, len(instrs) - 1)
         case 6:
             # The limit is met by the last.
-            instrs.append(straight(few))
+            instrs.append(one(few))
             limit = len(instrs)
         case _:
             tail = rng.pick(ENDS)
@@ -516,11 +548,100 @@ while len(cases) < 20_800:
     fenced()
 
 
+# Zbb.
+
+PLACES = range(64)
+BITS = [1 << i for i in PLACES]
+ONES = [M64 >> i for i in PLACES]  # the low bits
+# Bytes and halfwords whose top bit is set or not, words that are 0 or not, and bytes that are 0 or not.
+FIELDS = [0x7F, 0x80, 0xFF, 0x100, 0x7FFF, 0x8000, 0xFFFF, 0x1_0000, 0xFFFF_FFFF_FFFF_FF00, 0xFFFF_FFFF_FFFF_0000,
+          0xFFFF_FFFF_0000_0000, 0x8000_0000_8000_0000, 0x1_0000_0001, 0x1234_5678_0000_0000, 0x8765_4321,
+          0x0123_4567_89AB_CDEF, *(a * 0x0001_0001_0001_0001 for a in (
+              0x0001, 0x0100, 0x0080, 0x8000, 0x00FF, 0xFF00, 0x0101, 0x8080, 0x7F7F, 0x5555))]
+
+
+def pieces():
+    """Each byte is 0, or one bit, or anything."""
+    return int.from_bytes(bytes(rng.pick((0, 1 << rng.below(8), rng.below(256))) for _ in range(8)), "little")
+
+
+def any_value():
+    return rng.pick((pieces, rng.value, rng.value))()
+
+
+for kind in ZBB_ONE:
+    for a in dict.fromkeys(EDGES + FIELDS + BITS + [M64 ^ b for b in BITS] + ONES + [M64 ^ b for b in ONES]):
+        rd, rs1 = rng.distinct(X, 2)
+        single(one_operand(kind, rd, rs1), {rs1: a})
+    for _ in range(3):
+        for rd, rs1, _ in aliased():
+            single(one_operand(kind, rd, rs1), {rs1: any_value()})
+    for r in range(32):
+        for rd, rs1 in ((r, r), (r, rng.below(32)), (rng.below(32), r)):
+            single(one_operand(kind, rd, rs1), {rs1: any_value()})
+    for _ in range(240):
+        rd, rs1 = rng.below(32), rng.below(32)
+        single(one_operand(kind, rd, rs1), {rs1: any_value()})
+
+for kind in ZBB:
+    for a, b in edge_pairs():
+        rd, rs1, rs2 = three()
+        single(op(kind, rd, rs1, rs2), {rs1: a, rs2: b})
+    for bit in BITS:
+        a = rng.next()
+        for x, y in ((bit, a), (a, bit), (bit, M64 ^ bit), (a, a ^ bit)):
+            rd, rs1, rs2 = three()
+            single(op(kind, rd, rs1, rs2), {rs1: x, rs2: y})
+    for _ in range(3):
+        for registers in aliased():
+            single(op(kind, *registers), {r: any_value() for r in registers[1:]})
+    for r in range(32):
+        for registers in ((r, r, r), (r, rng.below(32), rng.below(32)), (rng.below(32), r, rng.below(32)),
+                          (rng.below(32), rng.below(32), r)):
+            single(op(kind, *registers), {r: any_value() for r in registers[1:]})
+    for _ in range(60):
+        # Operands that are equal or beside each other.
+        rd, rs1, rs2 = three()
+        a = any_value()
+        single(op(kind, rd, rs1, rs2), {rs1: a, rs2: (a + rng.between(-1, 1)) & M64})
+for kind in ("rol", "ror", "rolw", "rorw"):
+    # All counts, with and without other bits above them.
+    for count in range(128):
+        for a, above in ((rng.next(), 0), (any_value(), rng.next() << 7 & M64)):
+            rd, rs1, rs2 = three()
+            single(op(kind, rd, rs1, rs2), {rs1: a, rs2: count | above})
+
+for kind in ZBB_IMM:
+    width = ZBB_IMM[kind][3]
+    for count in [*range(width)] * (64 // width):
+        for a in (1, 0x8000_0000, 2**63, rng.pick(BITS), rng.next(), rng.next(), any_value()):
+            rd, rs1 = rng.distinct(X, 2)
+            single(shift_imm(kind, rd, rs1, count), {rs1: a})
+    for a in dict.fromkeys(EDGES + FIELDS + BITS):
+        rd, rs1 = rng.distinct(X, 2)
+        single(shift_imm(kind, rd, rs1, rng.below(width)), {rs1: a})
+    for _ in range(3):
+        for rd, rs1, _ in aliased():
+            single(shift_imm(kind, rd, rs1, rng.below(width)), {rs1: any_value()})
+    for r in range(32):
+        for rd, rs1 in ((r, r), (r, rng.below(32)), (rng.below(32), r)):
+            single(shift_imm(kind, rd, rs1, rng.below(width)), {rs1: any_value()})
+
+first = len(cases)
+while len(cases) < first + 1_800:
+    block(8, mixed)
+while len(cases) < first + 2_000:
+    block(14, mixed)
+
+
 # The machine runs them.
 
-def request(case):
-    last = case.run[-1]
-    code = b"".join(i.code for i in case.run)
+OUTCOME = struct.Struct("<QQ32Q32Q")
+
+
+def request(case, run):
+    last = run[-1]
+    code = b"".join(i.code for i in run)
     straight_bytes = len(code) - len(last.code) if last.jumps() else len(code)
     registers = [case.inputs.get(r, default(r)) for r in range(32)]
     return struct.pack("<QQQ64s32Q", case.pc, straight_bytes, len(code), code, *registers)
@@ -541,7 +662,7 @@ def targets(case, before):
 
 def record(case, outcome):
     """The case with its outcome, or None where the machine would run on: a jump onto itself or into the recorder."""
-    signal, pc, *rest = struct.unpack("<QQ32Q32Q", outcome)
+    signal, pc, *rest = OUTCOME.unpack(outcome)
     after, before = rest[:32], rest[32:]
     at, ways = targets(case, before)
     if any(at <= t < at + len(case.run[-1].code) or t in RECORDER for t in ways):
@@ -552,6 +673,22 @@ def record(case, outcome):
             + pairs(case.inputs) + pairs(changed) + struct.pack("<QB", pc, len(case.run)))
 
 
+def miscounted(program):
+    """The numbers of the cases with a CTZW of a register whose low word is 0 and whose upper is not.
+
+    qemu 7.2 counts all 64 bits there. The machine runs what stands in front of it, and so says what the register holds.
+    """
+    asked = [(number, case, at, instr.zeros) for number, case in enumerate(cases)
+             for at, instr in enumerate(case.run) if instr.zeros]
+    outcomes = iter(machine(program, [request(case, case.run[:at]) for _, case, at, _ in asked if at], OUTCOME.size))
+    found = set()
+    for number, case, at, register in asked:
+        value = OUTCOME.unpack(next(outcomes))[2 + register] if at else case.inputs.get(register, default(register))
+        if value and value % 2**32 == 0:
+            found.add(number)
+    return found
+
+
 def check_kinds():
     """binutils' mnemonic for each instruction must be the kind.
 
@@ -560,23 +697,33 @@ def check_kinds():
     same = {("fence.tso", "fence"), ("c.addi", "c.nop"), ("c.srli64", "c.srli"), ("c.srai64", "c.srai"),
             ("c.slli64", "c.slli"), (".4byte", "fence"), (".4byte", "fence.i")}
     instrs = [i for case in cases for i in case.run]
-    found = disassemble("riscv64-linux-gnu-objdump", ["-m", "riscv:rv64", "-M", "no-aliases"],
-                        b"".join(i.code for i in instrs))
+    with open("code.bin", "wb") as file:
+        file.write(b"".join(i.code for i in instrs))
+    with open("code.s", "w") as file:
+        file.write('.incbin "code.bin"\n')
+    # The object says that there is Zbb. Its one symbol goes: it says that these are data.
+    subprocess.run(["riscv64-linux-gnu-as", "-march=rv64gc_zbb", "-o", "code.o", "code.s"], check=True)
+    subprocess.run(["riscv64-linux-gnu-objcopy", "--strip-all", "code.o"], check=True)
+    found = listed(["riscv64-linux-gnu-objdump", "-d", "-M", "no-aliases", "code.o"])
     at = 0
     for instr in instrs:
-        assert found[at] == instr.kind or (found[at], instr.kind) in same, (found[at], instr)
+        read = found[at][0]
+        assert read == instr.kind or (read, instr.kind) in same, (read, instr)
         at += len(instr.code)
 
 
 def main():
     program, path = sys.argv[1:]
     check_kinds()
-    outcomes = machine(program.split(), [request(case) for case in cases], 16 + 512)
-    kept = [(case, r) for case, o in zip(cases, outcomes) if (r := record(case, o)) is not None]
+    outcomes = machine(program.split(), [request(case, case.run) for case in cases], OUTCOME.size)
+    wrong = miscounted(program.split())
+    right = [(case, outcome) for number, (case, outcome) in enumerate(zip(cases, outcomes)) if number not in wrong]
+    kept = [(case, r) for case, outcome in right if (r := record(case, outcome)) is not None]
     write(path, b"RV64CASE", [r for _, r in kept])
     singles = Counter(case.run[0].kind for case, _ in kept if len(case.instrs) == 1)
     ran = Counter(i.kind for case, _ in kept for i in case.run)
-    print(f"rv64: {len(kept)} cases, {len(cases) - len(kept)} left out (a jump onto itself or into the recorder), "
+    print(f"rv64: {len(kept)} cases, {len(right) - len(kept)} left out (a jump onto itself or into the recorder), "
+          f"{len(wrong)} left out (CTZW of a low word 0 below an upper word that is not), "
           f"{len(kept) - sum(singles.values())} blocks, {sum(ran.values())} instructions, {len(ran)} kinds")
     print("kind: single cases, instructions in all")
     for kind in ran:

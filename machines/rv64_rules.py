@@ -33,6 +33,10 @@ BEQ_MOST, BEQ_LEAST = 0x7E00_0FE3, 0x8000_0063  # 4094, -4096
 BEQ, BNE, BLT, BGE, BLTU, BGEU = (
     0x0062_8463, 0x0062_9463, 0x0062_C463, 0x0062_D463, 0x0062_E463, 0x0062_F463)
 
+# X5, X6 where no others are named
+CLZ, CTZW, CTZW_X6_X6, CTZW_X0_X6 = 0x6003_1293, 0x6013_129B, 0x6013_131B, 0x6013_101B
+SLLI_X6_33 = 0x0213_1313  # X6 = X6 * 2^33
+
 TOP = 2**64
 
 records = []
@@ -229,6 +233,96 @@ for fence in (FENCE, 0x0000_000F, 0x8330_000F, FENCE_FIELDS):
     rule([fence, C_ADDI_X10_1, fence, C_ADDI_X10_1], 0x1000, 0x100C, 4, x={10: 7}, after={10: 9})
     rule([fence, FENCE_I, C_ADDI_X10_1], 0x1000, 0x1008, 2)
     rule([FENCE_I, fence, C_ADDI_X10_1], 0x1000, 0x1004, 1)
+
+# Zbb (document 02, No. 7). CTZW counts in the low word alone: 32 where that is 0, whatever stands above it (ISA, Zbb).
+# qemu 7.2 counts on into the upper word there, 33 for 2^33, so that the machine's record has none of these.
+for place in range(32, 64):
+    rule([CTZW], 0x1000, 0x1004, 1, x={6: 2**place}, after={5: 32})
+for upper in (0x2, 0x3, 0x6, 0xFFFF_FFFF, 0xFFFF_FFFE, 0x8000_0000, 0xC000_0000, 0x8000_0001, 0x1234_5678, 0xAAAA_AAAA,
+              0x5555_5555, 0xFFFF_0000):
+    rule([CTZW], 0x1000, 0x1004, 1, x={6: upper * 2**32}, after={5: 32})
+    rule([CTZW_X6_X6], 0x1000, 0x1004, 1, x={6: upper * 2**32}, after={6: 32})
+    rule([CTZW_X0_X6], 0x1000, 0x1004, 1, x={6: upper * 2**32})
+# Beside others; of what another made: 1 shifted by 33 is 2^33; the count 32 counted again has five zeros.
+rule([C_ADDI_X10_1, CTZW, C_ADDI_X10_1], 0x1000, 0x1008, 3, x={6: 2**33, 10: 7}, after={5: 32, 10: 9})
+rule([SLLI_X6_33, CTZW], 0x1000, 0x1008, 2, x={6: 1}, after={5: 32, 6: 2**33})
+rule([CTZW_X6_X6, CTZW], 0x1000, 0x1008, 2, x={6: 2**63}, after={5: 5, 6: 32})
+rule([CTZW_X6_X6, CTZW], 0x1000, 0x1004, 1, limit=1, x={6: 2**63}, after={6: 32})
+
+# Zbb reads register 0's entry as 0 too, and leaves it 0.
+for entry in (1, 0xDEAD_BEEF, 2**63, 2**64 - 1):
+    for of_x0, value in (
+            (0x6000_1293, 64), (0x6010_1293, 64), (0x6020_1293, 0),  # CLZ, CTZ, CPOP X5, X0
+            (0x6000_129B, 32), (0x6010_129B, 32), (0x6020_129B, 0),  # CLZW, CTZW, CPOPW X5, X0
+            (0x6040_1293, 0), (0x6050_1293, 0), (0x0800_42BB, 0),  # SEXT.B, SEXT.H, ZEXT.H X5, X0
+            (0x2870_5293, 0), (0x6B80_5293, 0), (0x6010_5293, 0)):  # ORC.B, REV8 X5, X0; RORI X5, X0, 1
+        rule([of_x0], 0x1000, 0x1004, 1, x={0: entry}, after={0: 0, 5: value})
+    for with_x0, value in (
+            (0x4003_72B3, 9), (0x4003_62B3, 2**64 - 1), (0x4003_42B3, 2**64 - 10),  # ANDN, ORN, XNOR X5, X6, X0
+            (0x0A60_62B3, 9), (0x0A60_72B3, 9), (0x0A60_42B3, 0), (0x0A60_52B3, 0),  # MAX, MAXU, MIN, MINU X5, X0, X6
+            (0x6003_12B3, 9), (0x6003_52B3, 9), (0x6003_12BB, 9), (0x6003_52BB, 9)):  # ROL, ROR, ROLW, RORW X5, X6, X0
+        rule([with_x0], 0x1000, 0x1004, 1, x={0: entry, 6: 9}, after={0: 0, 5: value})
+    rule([0x6003_1013], 0x1000, 0x1004, 1, x={0: entry}, after={0: 0})  # CLZ X0, X6
+    rule([0x4073_7033], 0x1000, 0x1004, 1, x={0: entry}, after={0: 0})  # ANDN X0, X6, X7
+
+# It is fetched as any other: past the top of 64 bits, and not without its second halfword.
+rule([CLZ], TOP - 4, 0, 1, x={6: 1}, after={5: 63})
+rule([CLZ], TOP - 2, 2, 1, x={6: 1}, after={5: 63})
+rule([C_NOP, CLZ], TOP - 2, 4, 2, x={6: 1}, after={5: 63})
+rule([C_NOP], 0x1000, 0x1002, 1, rest=b"\x93\x12")
+rule([C_NOP], 0x1000, 0x1002, 1, rest=b"\x93\x12\x03")
+rule([CLZ], 0x1000, 0x1004, 1, x={6: 1}, after={5: 63}, rest=b"\x93\x12\x03")
+rule([], 0x1000, 0, 0, rest=b"\x93\x12", refusal=4)
+rule([], 0x1000, 0, 0, rest=b"\x93\x12\x03", refusal=4)
+
+# Words beside Zbb's are not covered: the block ends before one, and is refused where it stands first.
+for word in (
+    # ZEXT.H with rs2 1, 2, 7, 16, 31 (PACKW of Zbkb), and in OP (ZEXT.H of RV32; with rs2 7 PACK); PACKH.
+    0x0813_42BB, 0x0823_42BB, 0x0873_42BB, 0x0903_42BB, 0x09F3_42BB, 0x0803_42B3, 0x0873_42B3, 0x0873_72B3,
+    # CLZ, CTZ, CPOP, SEXT.B, SEXT.H have funct12 0x600, 0x601, 0x602, 0x604, 0x605. These: 0x603, 0x606 to 0x608,
+    # 0x60F, 0x610, 0x618, 0x61F, 0x620, 0x621, 0x63F.
+    0x6033_1293, 0x6063_1293, 0x6073_1293, 0x6083_1293, 0x60F3_1293, 0x6103_1293, 0x6183_1293, 0x61F3_1293,
+    0x6203_1293, 0x6213_1293, 0x63F3_1293,
+    # CLZ with bit 26, 28 or 31 set, or 30 clear.
+    0x6403_1293, 0x7003_1293, 0xE003_1293, 0x2003_1293,
+    # CLZW, CTZW, CPOPW have 0x600 to 0x602. These: 0x603 to 0x608, 0x610, 0x611, 0x61F, 0x620, 0x621; CTZW with bit
+    # 26 or 31 set, or 30 clear.
+    0x6033_129B, 0x6043_129B, 0x6053_129B, 0x6063_129B, 0x6073_129B, 0x6083_129B, 0x6103_129B, 0x6113_129B, 0x61F3_129B,
+    0x6203_129B, 0x6213_129B, 0x6413_129B, 0xE013_129B, 0x2013_129B,
+    # RORIW of 1 with bit 25, 26, 27, 28 or 31 set, or 30 clear (without 29 it is SRAIW); of 31 with bit 25 set.
+    0x6213_529B, 0x6413_529B, 0x6813_529B, 0x7013_529B, 0xE013_529B, 0x2013_529B, 0x63F3_529B,
+    # RORI of 1 with bit 26, 27, 28 or 31 set, or 30 clear (without 29 it is SRAI).
+    0x6413_5293, 0x6813_5293, 0x7013_5293, 0xE013_5293, 0x2013_5293,
+    # ORC.B has funct12 0x287. These: 0x280, 0x281, 0x283, 0x285, 0x286, 0x288, 0x28F, 0x297, 0x29F, 0x2A7, 0x2BF.
+    0x2803_5293, 0x2813_5293, 0x2833_5293, 0x2853_5293, 0x2863_5293, 0x2883_5293, 0x28F3_5293, 0x2973_5293, 0x29F3_5293,
+    0x2A73_5293, 0x2BF3_5293,
+    # REV8 has 0x6B8. These: 0x698 (RV32's), 0x687 (BREV8), 0x680, 0x6A8, 0x6B0, 0x6B9, 0x6BC, 0x6BF, 0x2B8, 0x7B8.
+    0x6983_5293, 0x6873_5293, 0x6803_5293, 0x6A83_5293, 0x6B03_5293, 0x6B93_5293, 0x6BC3_5293, 0x6BF3_5293, 0x2B83_5293,
+    0x7B83_5293,
+    # ORC.B and REV8 in OP-IMM-32, ORC.B with funct3 1 (BSETI), REV8 with funct3 1 (BINVI).
+    0x2873_529B, 0x6B83_529B, 0x2873_1293, 0x6B83_1293,
+    # MIN, MINU, MAX, MAXU with funct7 4, 7 (of Zicond among them) and 0x25; in OP-32.
+    0x0873_52B3, 0x0873_62B3, 0x0E73_42B3, 0x0E73_52B3, 0x0E73_62B3, 0x0E73_72B3, 0x4A73_42B3, 0x4A73_72B3,
+    0x0A73_42BB, 0x0A73_52BB, 0x0A73_62BB, 0x0A73_72BB,
+    # ANDN, ORN, XNOR in OP-32, and with funct7 0x21 and 0x60; funct7 0x20 with funct3 1 to 3.
+    0x4073_72BB, 0x4073_62BB, 0x4073_42BB, 0x4273_72B3, 0x4273_62B3, 0x4273_42B3, 0xC073_72B3, 0xC073_62B3, 0xC073_42B3,
+    0x4073_12B3, 0x4073_22B3, 0x4073_32B3,
+    # ROL, ROR with funct3 0, 2, 3, 4, 6, 7, with funct7 0x31 and 0x70.
+    0x6073_02B3, 0x6073_22B3, 0x6073_32B3, 0x6073_42B3, 0x6073_62B3, 0x6073_72B3, 0x6273_12B3, 0x6273_52B3, 0xE073_12B3,
+    0xE073_52B3,
+    # ROLW, RORW with funct3 0, 2, 3, 4, 6, 7, with funct7 0x31 and 0x10.
+    0x6073_02BB, 0x6073_22BB, 0x6073_32BB, 0x6073_42BB, 0x6073_62BB, 0x6073_72BB, 0x6273_12BB, 0x6273_52BB, 0x2073_12BB,
+    0x2073_52BB,
+    # Zbs: BSET, BCLR, BINV, BEXT, BSETI of 8, BCLRI, BINVI, BEXTI of 7.
+    0x2873_12B3, 0x4873_12B3, 0x6873_12B3, 0x4873_52B3, 0x2883_1293, 0x4873_1293, 0x6873_1293, 0x4873_5293,
+    # Zba: SH1ADD, SH2ADD, SH3ADD, the same .UW, ADD.UW, SLLI.UW.
+    0x2073_22B3, 0x2073_42B3, 0x2073_62B3, 0x2073_22BB, 0x2073_42BB, 0x2073_62BB, 0x0873_02BB, 0x0873_129B,
+    # Zbc: CLMUL, CLMULH, CLMULR. Zbkx: XPERM4, XPERM8.
+    0x0A73_12B3, 0x0A73_32B3, 0x0A73_22B3, 0x2873_22B3, 0x2873_42B3,
+):
+    rule([word], 0x1000, 0, 0, refusal=5)
+    rule([C_ADDI_X10_1, word, C_ADDI_X10_1], 0x1000, 0x1002, 1, x={10: 7}, after={10: 8})
+    rule([CLZ, word, CLZ], 0x1000, 0x1004, 1, x={6: 1}, after={5: 63})
 
 
 write(sys.argv[1], b"RV64RULE", records)
