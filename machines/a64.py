@@ -24,12 +24,14 @@ THREE = {"add": (0x8B00_0000, "add"), "sub": (0xCB00_0000, "sub"), "and": (0x8A0
          "orr": (0xAA00_0000, "orr"), "eor": (0xCA00_0000, "eor"), "lslv": (0x9AC0_2000, "lslv"),
          "lsrv": (0x9AC0_2400, "lsrv"), "asrv": (0x9AC0_2800, "asrv"), "mul": (0x9B00_7C00, "madd"),
          "smulh": (0x9B40_7C00, "smulh"), "umulh": (0x9BC0_7C00, "umulh"), "udiv": (0x9AC0_0800, "udiv"),
-         "sdiv": (0x9AC0_0C00, "sdiv")}
+         "sdiv": (0x9AC0_0C00, "sdiv"), "bic": (0x8A20_0000, "bic"), "orn": (0xAA20_0000, "orn"),
+         "eon": (0xCA20_0000, "eon"), "rorv": (0x9AC0_2C00, "rorv")}
+ONE = {"rev": (0xDAC0_0C00, "rev"), "clz": (0xDAC0_1000, "clz")}
 OTHERS = {"ldr": (0xF940_0000, "ldr"), "str": (0xF900_0000, "str"), "cmp": (0xEB00_001F, "subs"),
           "csel": (0x9A80_0000, "csel"), "sxtw": (0x9340_7C00, "sbfm"), "add_sp": (0x9100_03FF, "add"),
           "sub_sp": (0xD100_03FF, "sub"), "movz": (0xD280_0000, "movz"), "movk": (0xF280_0000, "movk"),
           "blr": (0xD63F_0000, "blr"), "ret": (0xD65F_03C0, "ret")}
-FORMS = THREE | OTHERS
+FORMS = THREE | ONE | OTHERS
 
 
 @dataclass
@@ -41,6 +43,10 @@ class Word:
 
 def three(form, rd, rn, rm):
     return Word(form, FORMS[form][0] | rm << 16 | rn << 5 | rd)
+
+
+def one(form, rd, rn):
+    return Word(form, FORMS[form][0] | rn << 5 | rd)
 
 
 def cmp(rn, rm):
@@ -151,11 +157,37 @@ for form in [*THREE, "cmp"]:
     for _ in range(620):
         rd, rn, rm = rng.below(32), rng.below(32), rng.below(32)
         single(cmp(rn, rm) if form == "cmp" else three(form, rd, rn, rm), values((rn, rm)))
-for form in ("lslv", "lsrv", "asrv"):
+for form in ("lslv", "lsrv", "asrv", "rorv"):
     for amount in (0, 1, 31, 32, 33, 62, 63, 64, 65, 127, 128, 2**32, 2**63, M64):
         for a in (1, M64, 0x8000_0000, 2**63, 2**63 - 1, rng.next()):
             rd, rn, rm = rng.distinct(X, 3)
             single(three(form, rd, rn, rm), {rn: a, rm: amount})
+BITS = [1 << i for i in range(64)]
+for amount in range(128):
+    for a in (rng.pick(BITS), rng.next()):
+        rd, rn, rm = rng.distinct(X, 3)
+        single(three("rorv", rd, rn, rm), {rn: a, rm: amount | rng.pick((0, rng.next() << 7 & M64))})
+for form in ("bic", "orn", "eon"):
+    for bit in BITS:
+        a = rng.next()
+        for x, y in ((bit, a), (a, bit)):
+            rd, rn, rm = rng.distinct(X, 3)
+            single(three(form, rd, rn, rm), {rn: x, rm: y})
+# One bit, all but one, the low bits and the high ones; a byte in each place.
+PATTERNS = [*BITS, *(M64 ^ b for b in BITS), *(b - 1 for b in BITS), *(M64 - b + 1 for b in BITS),
+            *(byte << 8 * i for byte in (0x80, 0xA5, 0xFF) for i in range(8))]
+for form in ONE:
+    for a in dict.fromkeys(EDGES + PATTERNS):
+        rd, rn = rng.distinct(X, 2)
+        single(one(form, rd, rn), {rn: a})
+    for rd, rn in [(a, b) for a, b, _ in aliased() * 4]:
+        single(one(form, rd, rn), values((rn,)))
+    for r in range(32):
+        for rd, rn in ((r, r), (r, rng.below(32)), (rng.below(32), r)):
+            single(one(form, rd, rn), values((rn,)))
+    for _ in range(240):
+        rd, rn = rng.below(32), rng.below(32)
+        single(one(form, rd, rn), values((rn,)))
 for _ in range(200):
     a = rng.value()
     rn, rm = rng.distinct(X, 2)
@@ -273,7 +305,7 @@ class Run:
 
     def one(self):
         rd, rn, rm = self.register(), self.register(), self.register()
-        choice = rng.below(16)
+        choice = rng.below(18)
         if self.memory.data and rng.below(3) == 0:
             return self.one_access()
         if choice < 7:
@@ -288,6 +320,8 @@ class Run:
             form, imm = rng.pick(("add_sp", "sub_sp")), rng.pick((16, 16, 32, rng.below(4096)))
             self.moving_sp = (self.moving_sp + (imm if form == "add_sp" else -imm)) & M64
             self.add(sp_imm(form, imm))
+        elif choice < 16:
+            self.add(one(rng.pick([*ONE]), rd, rn), rd)
         else:
             self.add(move(rng.pick(("movz", "movk")), rd, rng.below(4), rng.below(2**16)), rd)
 
@@ -313,7 +347,7 @@ def load_constant():
 
 for _ in range(200):
     load_constant()
-while len(cases) < 20_200:
+for _ in range(4_000):
     cases.append(Run().case(8))
 
 

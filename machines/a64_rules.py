@@ -96,8 +96,8 @@ rule([MOVZ_X0_1], SPENT, 0, budget=0, nzcv=0xFF, nzcv_after=15)
 rule([CSEL_X0_X1_X2_EQ], OFF_THE_END, 1, nzcv=0xFB, nzcv_after=0xB, x={1: 11, 2: 22}, after={0: 22})
 rule([CSEL_X0_X1_X2_EQ], OFF_THE_END, 1, nzcv=0x14, nzcv_after=4, x={1: 11, 2: 22}, after={0: 11})
 
-# Words outside the 24 forms.
-for word in (
+# Words outside the 30 forms.
+OUTSIDE = [
     # Not allocated, system, branches other than BLR and RET X30.
     0x0000_0000, 0xFFFF_FFFF, 0x0000_0001, 0x8000_0000, 0xD503_201F, 0xD503_3FDF, 0xD400_0001, 0xD420_0000,
     0x1400_0000, 0x9400_0001, 0x5400_0000, 0xB400_0000, 0xB500_0000, 0x3600_0000, 0x1000_0000, 0x9000_0000,
@@ -110,12 +110,20 @@ for word in (
     # ADD, SUB, CMP: shifted by 1, by another kind of shift, extended register, flags set, CMP with Rd other than 31.
     0x8B02_0420, 0x8B42_0020, 0x8B82_0020, 0x8B22_0020, 0xAB02_0020, 0xCB02_0420, 0xCB42_0020, 0xCB22_63FF,
     0xEB02_0020, 0xEB02_043F, 0xEB42_003F, 0xEB22_003F, 0xAB02_003F, 0xEB02_001E,
-    # AND, ORR, EOR: shifted, inverted (BIC, ORN, EON), flags set (ANDS).
-    0x8A02_0420, 0x8A22_0020, 0x8A42_0020, 0xAA02_0420, 0xAA22_0020, 0xAA42_0020, 0xCA02_0420, 0xCA22_0020,
-    0xCAC2_0020, 0xEA02_0020, 0xEA22_0020,
-    # RORV, CRC32X, other two-source words; one-source words: RBIT, CLZ.
-    0x9AC2_2C20, 0x9AC2_4C20, 0x9AC2_0020, 0x9AC2_0420, 0x9AC2_1020, 0x9AC2_3020, 0xBAC2_2020, 0xDAC2_2020,
-    0xDAC0_0020, 0xDAC0_1020,
+    # AND, ORR, EOR: shifted, flags set (ANDS, BICS).
+    0x8A02_0420, 0x8A42_0020, 0xAA02_0420, 0xAA42_0020, 0xCA02_0420, 0xCAC2_0020, 0xEA02_0020, 0xEA22_0020,
+    # BIC, ORN, EON: LSL by 1, by 63; LSR, ASR, ROR by 0, by 1.
+    0x8A22_0420, 0x8A22_FC20, 0x8A62_0020, 0x8AA2_0020, 0x8AE2_0020, 0x8A62_0420, 0x8AA2_0420, 0x8AE2_0420,
+    0xAA22_0420, 0xAA22_FC20, 0xAA62_0020, 0xAAA2_0020, 0xAAE2_0020, 0xAA62_0420, 0xAAA2_0420, 0xAAE2_0420,
+    0xCA22_0420, 0xCA22_FC20, 0xCA62_0020, 0xCAA2_0020, 0xCAE2_0020, 0xCA62_0420, 0xCAA2_0420, 0xCAE2_0420,
+    # CRC32X, other two-source words.
+    0x9AC2_4C20, 0x9AC2_0020, 0x9AC2_0420, 0x9AC2_1020, 0x9AC2_3020, 0xBAC2_2020, 0xDAC2_2020,
+    # One-source words: RBIT, REV16, REV32, CLS, CTZ, CNT, ABS; PACIA, XPACI.
+    0xDAC0_0020, 0xDAC0_0420, 0xDAC0_0820, 0xDAC0_1420, 0xDAC0_1820, 0xDAC0_1C20, 0xDAC0_2020, 0xDAC1_0020,
+    0xDAC1_43E1,
+    # In 32-bit registers: BIC, ORN, EON, BICS, RORV, REV16, REV, CLZ, CLS, RBIT.
+    0x0A22_0020, 0x2A22_0020, 0x4A22_0020, 0x6A22_0020, 0x1AC2_2C20, 0x5AC0_0420, 0x5AC0_0820, 0x5AC0_1020,
+    0x5AC0_1420, 0x5AC0_0020,
     # MADD with Ra other than 31, MSUB, SMADDL, UMADDL; SMULH and UMULH with Ra other than 31.
     0x9B02_0020, 0x9B02_7820, 0x9B02_FC20, 0x9B22_7C20, 0x9BA2_7C20, 0x9B42_0020, 0x9B42_FC20, 0x9BC2_0020,
     0x9BC2_7820,
@@ -134,7 +142,20 @@ for word in (
     0x3940_0000, 0x7940_0000, 0xB980_0000, 0xF980_0000, 0xF9C0_0000, 0xF840_0000, 0xF840_8400, 0xF840_8C00,
     0xF862_6820, 0x5800_0000, 0xF800_0000, 0xF800_8400, 0xA940_0000, 0xA900_0000, 0xFD40_0000, 0xFD00_0000,
     0xF880_0000,
+]
+# One bit other than in BIC, ORN, EON, RORV X0, X1, X2 and REV, CLZ X0, X1, outside the registers' fields. Left out are
+# the bits that make another form of it: BIC's 21, 29, 30 make AND, ORN, EON; ORN's 21, 29 ORR, BIC; EON's 21, 30 EOR,
+# BIC; RORV's 10, 11, 13 ASRV, LSRV, SDIV; REV's 27, 30 MOVZ, SDIV; CLZ's 27 MOVZ.
+for word, bits in (
+    (0x8A22_0020, (10, 11, 12, 13, 14, 15, 22, 23, 24, 25, 26, 27, 28, 31)),
+    (0xAA22_0020, (10, 11, 12, 13, 14, 15, 22, 23, 24, 25, 26, 27, 28, 30, 31)),
+    (0xCA22_0020, (10, 11, 12, 13, 14, 15, 22, 23, 24, 25, 26, 27, 28, 29, 31)),
+    (0x9AC2_2C20, (12, 14, 15, 21, 22, 23, 24, 25, 26, 27, 28, 29, 30, 31)),
+    (0xDAC0_0C20, (10, 11, 12, 13, 14, 15, 16, 17, 18, 19, 20, 21, 22, 23, 24, 25, 26, 28, 29, 31)),
+    (0xDAC0_1020, (10, 11, 12, 13, 14, 15, 16, 17, 18, 19, 20, 21, 22, 23, 24, 25, 26, 28, 29, 30, 31)),
 ):
+    OUTSIDE += [word ^ 1 << bit for bit in bits]
+for word in dict.fromkeys(OUTSIDE):  # each once
     rule([word], UNREADABLE, 0, budget=1)
     rule([MOVZ_X2_7, word, RET], UNREADABLE, 1, after={2: 7})
 

@@ -15,8 +15,10 @@ from common import Random, disassembly, write
 
 rng = Random(0x4C_4953_54)
 
-THREE = ["add", "sub", "and", "orr", "eor", "lslv", "lsrv", "asrv", "mul", "smulh", "umulh", "udiv", "sdiv"]
-SHIFTED = ["add", "sub", "and", "orr", "eor"]
+THREE = ["add", "sub", "and", "orr", "eor", "lslv", "lsrv", "asrv", "mul", "smulh", "umulh", "udiv", "sdiv", "bic", "orn",
+         "eon", "rorv"]
+SHIFTED = ["add", "sub", "and", "orr", "eor", "bic", "orn", "eon"]
+ONE = ["rev", "clz"]
 CONDITIONS = ["eq", "ne", "cs", "cc", "mi", "pl", "vs", "vc", "hi", "ls", "ge", "lt", "gt", "le", "al", "nv"]
 EDGE = [0, 1, 9, 10, 29, 30, 31]
 ALL = range(32)
@@ -40,6 +42,10 @@ def three(op, rd, rn, rm):
     if op == "mul":
         return f"madd {x(rd)}, {x(rn)}, {x(rm)}, xzr"
     return f"{op} {x(rd)}, {x(rn)}, {x(rm)}" + (", lsl #0" if op in SHIFTED else "")
+
+
+def one(op, rd, rn):
+    return f"{op} {x(rd)}, {x(rn)}"
 
 
 def access(op, rt, rn, imm12):
@@ -74,6 +80,7 @@ RET = "ret x30"
 
 # Each form once, with fields that differ.
 FORMS = {op: three(op, 1 + i, 30 - i, 15 + i) for i, op in enumerate(THREE)}
+FORMS |= {op: one(op, 3 + i, 28 + i) for i, op in enumerate(ONE)}
 FORMS |= {"ldr": access("ldr", 9, 0, 8), "str": access("str", 30, 31, 1), "movz": move("movz", 0, 0, 0x1002),
           "movk": move("movk", 11, 3, 0xFFFF), "cmp": cmp(9, 10), "csel": csel(0, 9, 10, 2), "sxtw": sxtw(1, 2),
           "add_sp": sp_imm("add", 16), "sub_sp": sp_imm("sub", 16), "blr": blr(16), "ret": RET}
@@ -109,6 +116,9 @@ def pairs():
 for op in THREE:
     for rd, rn, rm in triples():
         say(op, three(op, rd, rn, rm))
+for op in ONE:
+    for a, b in pairs():
+        say(op, one(op, a, b))
 for rd, rn, rm in triples():
     say("csel", csel(rd, rn, rm, rng.below(16)))
 for cond in range(16):
@@ -149,8 +159,12 @@ add x0, x1, w2, sxtw #0; add sp, sp, x0; adds x0, x1, x2; add w0, w1, w2; adc x0
 sub x0, x1, x2, lsl #1; sub x0, x1, x2, lsr #0; sub sp, sp, x0; subs x0, x1, x2; sub w0, w1, w2; sbc x0, x1, x2
 subs xzr, x1, x2, lsl #1; subs xzr, x1, x2, asr #0; subs x30, x1, x2; subs wzr, w1, w2; subs xzr, x1, #2; adds xzr, x1, x2
 ccmp x1, x2, #0, eq; and x0, x1, x2, lsl #1; and x0, x1, x2, ror #0; and w0, w1, w2; and x0, x1, #1; ands x0, x1, x2
-bic x0, x1, x2; orr x0, x1, x2, lsr #1; orr w0, w1, w2; orr x0, x1, #1; orn x0, x1, x2; eor x0, x1, x2, asr #1
-eor w0, w1, w2; eor x0, x1, #1; eon x0, x1, x2; lslv w0, w1, w2; lsrv w0, w1, w2; asrv w0, w1, w2; rorv x0, x1, x2
+orr x0, x1, x2, lsr #1; orr w0, w1, w2; orr x0, x1, #1; eor x0, x1, x2, asr #1; eor w0, w1, w2; eor x0, x1, #1
+bic x0, x1, x2, lsl #1; bic x0, x1, x2, lsl #63; bic x0, x1, x2, lsr #0; bic x0, x1, x2, asr #0; bic x0, x1, x2, ror #0
+orn x0, x1, x2, lsl #1; orn x0, x1, x2, lsl #63; orn x0, x1, x2, lsr #0; orn x0, x1, x2, asr #0; orn x0, x1, x2, ror #0
+eon x0, x1, x2, lsl #1; eon x0, x1, x2, lsl #63; eon x0, x1, x2, lsr #0; eon x0, x1, x2, asr #0; eon x0, x1, x2, ror #0
+bic w0, w1, w2; orn w0, w1, w2; eon w0, w1, w2; bics x0, x1, x2; bics w0, w1, w2
+lslv w0, w1, w2; lsrv w0, w1, w2; asrv w0, w1, w2; rorv w0, w1, w2; ror x0, x1, #1
 madd x0, x1, x2, x3; madd x0, x1, x2, x30; madd w0, w1, w2, wzr; msub x0, x1, x2, xzr; smaddl x0, w1, w2, xzr
 umaddl x0, w1, w2, xzr; udiv w0, w1, w2; sdiv w0, w1, w2; ldr w0, [x1, #8]; ldrh w0, [x1, #8]; ldrb w0, [x1, #8]
 ldrsw x0, [x1, #8]; ldrsb x0, [x1, #8]; ldr d0, [x1, #8]; ldr q0, [x1, #16]; ldur x0, [x1, #8]; ldur x0, [x1, #7]
@@ -163,7 +177,8 @@ bfm x0, x1, #0, #31; extr x0, x1, x2, #31; add sp, sp, #1, lsl #12; add x0, sp, 
 add wsp, wsp, #16; adds xzr, sp, #16; sub sp, sp, #1, lsl #12; sub x0, sp, #16; sub sp, x0, #16; subs xzr, sp, #16
 sub wsp, wsp, #16; br x16; br x30; ret x1; ret x29; ret xzr; eret; drps; blraaz x16; retaa; b .; bl .; b.eq .
 cbz x0, .; tbz x0, #1, .; adr x0, .; nop; yield; bti c; isb; dmb sy; svc #0; brk #0; hlt #0; udf #0; udf #65535
-mrs x0, nzcv; msr nzcv, x0; clz x0, x1; rbit x0, x1; rev x0, x1; crc32x w0, w1, x2; fmov d0, x0
+mrs x0, nzcv; msr nzcv, x0; clz w0, w1; cls x0, x1; cls w0, w1; rbit x0, x1; rbit w0, w1; rev w0, w1; rev16 x0, x1
+rev16 w0, w1; rev32 x0, x1; crc32x w0, w1, x2; fmov d0, x0
 """
 NEIGHBOURS = [text.strip() for text in re.split("[;\n]", NEIGHBOURS) if text.strip()]
 
@@ -192,9 +207,10 @@ def pack(words):
     return struct.pack(f"<{len(words)}I", *words)
 
 
-# What binutils writes for the 24 forms; it leaves out LSL #0, a zero offset and X30 of RET.
+# What binutils writes for the 30 forms; it leaves out LSL #0, a zero offset and X30 of RET.
 SHAPES = re.compile("|".join((
-    "(add|sub|and|orr|eor|lslv|lsrv|asrv|smulh|umulh|udiv|sdiv) R, R, R", "madd R, R, R, xzr", r"(ldr|str) R, \[B(, #\d+)?\]",
+    "(add|sub|and|orr|eor|lslv|lsrv|asrv|smulh|umulh|udiv|sdiv|bic|orn|eon|rorv) R, R, R", "(rev|clz) R, R",
+    "madd R, R, R, xzr", r"(ldr|str) R, \[B(, #\d+)?\]",
     "(movz|movk) R, #0x[0-9a-f]+(, lsl #(16|32|48))?", "subs xzr, R, R", "csel R, R, R, [a-z]{2}", "sbfm R, R, #0, #31",
     "(add|sub) sp, sp, #0x[0-9a-f]+", "blr R", "ret")).replace("R", r"(x\d+|xzr)").replace("B", r"(x\d+|sp)"))
 
