@@ -1,5 +1,5 @@
 /* The stack that each operation takes: a painted stack, its deepest changed byte over many seeded calls. Status 1
- * where Translate takes more than 12 KB, or 4 KB with a limit of 8, or another more than 1 KB, as the header says. */
+ * where Translate takes more than 16 KB, or 4 KB with a limit of 8, or another more than 1 KB, as the header says. */
 #include "draw.h"
 
 #include <stdio.h>
@@ -87,7 +87,7 @@ int main(void)
     }
     for (int n = 0; n < 10; n++) {
         printf("%s %zu\n", names[n], deepest[n]);
-        above |= deepest[n] > (n == 0 ? 12288 : n == 9 ? 4096 : 1024);
+        above |= deepest[n] > (n == 0 ? 16384 : n == 9 ? 4096 : 1024);
     }
     return above;
 }

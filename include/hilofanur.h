@@ -31,7 +31,7 @@
  * different threads; calls on one index take turns.
  *
  * The archive calls memcpy and memset and nothing else. It is position-independent, has no unwind tables and no
- * writable data. On x86-64 it uses SSE2 and the red zone; on AArch64 it is Armv8.0. Translate takes 12 KB of stack,
+ * writable data. On x86-64 it uses SSE2 and the red zone; on AArch64 it is Armv8.0. Translate takes 16 KB of stack,
  * 4 KB where the limit is at most 8, the others 1 KB, on both. A dynamic linker that binds memcpy or memset at its
  * first call takes its own stack there, 3 KB on x86-64.
  *

@@ -90,7 +90,7 @@
 //! # Ok::<(), Refusal>(())
 //! ```
 //!
-//! [`translate`] takes 12 KB of stack, 4 KB where the limit is at most 8, the others 1 KB. The library has no state:
+//! [`translate`] takes 16 KB of stack, 4 KB where the limit is at most 8, the others 1 KB. The library has no state:
 //! calls may run in any threads at once.
 
 #![deny(unsafe_code)]
