@@ -156,7 +156,8 @@ pub fn decode(w: u32) -> Form
     }
 }
 
-// ---- the form of a word that is one of the 30, by its upper byte: where words are known to be readable, this is the shorter way
+// ---- the form of a word that is one of the 30, by its upper byte: where words are known to be readable, this is the
+// shorter way
 
 fn form_logical(w: u32, op: Op, inverted: Op) -> Form
     ensures { λ r. ⌜ r ≡ form-logical w op inverted ⌝ }

@@ -1,4 +1,5 @@
--- The encodings of Zbb, RV64, from the RISC-V Unprivileged ISA, 'B' Extension for Bit Manipulation, 'Zbb: Basic bit-manipulation'. Definitions only.
+-- The encodings of Zbb, RV64, from the RISC-V Unprivileged ISA, 'B' Extension for Bit Manipulation, 'Zbb: Basic
+-- bit-manipulation'. Definitions only.
 use mathlib.Core.Bool.{cond}
 use mathlib.Core.List.{List, [], _∷_}
 use Prim.Native.Nat.{ℕ, _+_, _*_, _/_, _^_}

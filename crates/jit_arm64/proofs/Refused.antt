@@ -1,4 +1,5 @@
--- The Rust's emitters refuse every Zbb instruction: the product takes none of these encodings from the Rust. Assumes nothing.
+-- The Rust's emitters refuse every Zbb instruction: the product takes none of these encodings from the Rust. Assumes
+-- nothing.
 use mathlib.Core.Path.{_≡_}
 use mathlib.Core.List.{[]}
 use Prim.Native.Nat.{ℕ, _/_, _%_, _^_, _<_}

@@ -1,5 +1,5 @@
--- What the instructions of Zbb compute of rs1 and their second operand, from the RISC-V Unprivileged ISA, 'B' Extension for
--- Bit Manipulation, 'Zbb: Basic bit-manipulation'. Definitions only.
+-- What the instructions of Zbb compute of rs1 and their second operand, from the RISC-V Unprivileged ISA, 'B'
+-- Extension for Bit Manipulation, 'Zbb: Basic bit-manipulation'. Definitions only.
 use mathlib.Core.Bool.{cond}
 use Prim.Native.Nat.{ℕ, _-_, _%_, _^_}
 use lib.Dec.{ltb}
@@ -8,8 +8,8 @@ use Rattle.word.specs.Counts.{clz, ctz, cpop}
 use Rattle.word.specs.Bytes.{reversed, combined, ror, rol}
 use Rattle.isa.specs.declared.zbb.Zbb.{Zbb}
 
--- a rotation's count is the low six bits of its second operand, or the low five in a W instruction; what has one operand
--- does not ask for y
+-- a rotation's count is the low six bits of its second operand, or the low five in a W instruction; what has one
+-- operand does not ask for y
 unfoldable pub zbb-value : Zbb → ℕ → ℕ → ℕ
 zbb-value Zbb.Andn x y = and64 x (complement y)
 zbb-value Zbb.Orn x y = or64 x (complement y)

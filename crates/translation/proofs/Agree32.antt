@@ -1,5 +1,5 @@
--- Every 32-bit encoding: it is FENCE.I, or what is emitted agrees with the ISA's instruction: the Rust's emission with the
--- base ISA and M, and with Zbb first on both sides. Assumes nothing.
+-- Every 32-bit encoding: it is FENCE.I, or what is emitted agrees with the ISA's instruction: the Rust's emission
+-- with the base ISA and M, and with Zbb first on both sides. Assumes nothing.
 use mathlib.Core.Path.{_≡_, refl}
 use mathlib.Core.Bool.{Bool, true, false, cond, _&&_, _||_, true≢false}
 use mathlib.Core.List.{List, [], _∷_}

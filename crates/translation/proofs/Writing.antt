@@ -1,4 +1,5 @@
--- The word writers write the Arm manual's words: each word is `encode` of its form, and so `decode` reads the form. Assumes nothing.
+-- The word writers write the Arm manual's words: each word is `encode` of its form, and so `decode` reads the form.
+-- Assumes nothing.
 use mathlib.Core.Path.{_≡_, refl}
 use mathlib.Core.Bool.{Bool, true, false, cond}
 use mathlib.Core.List.{List, [], _∷_, _++_, map, map-append}

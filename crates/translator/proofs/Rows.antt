@@ -1,4 +1,5 @@
--- Document 01's marked blocks, three about FENCE.I, three about register 0 and three about Zbb, as one list over which one fact is shown. Assumes nothing.
+-- Document 01's marked blocks, three about FENCE.I, three about register 0 and three about Zbb, as one list over
+-- which one fact is shown. Assumes nothing.
 use Prim.Native.Nat.{ℕ, zero, suc, _*_, _-_}
 use mathlib.Core.Path.{_≡_, refl}
 use mathlib.Core.Bool.{false}

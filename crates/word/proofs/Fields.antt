@@ -1,5 +1,5 @@
--- Words as rows of fields: masks that keep the low half of each field, the sums of neighbouring fields, and the ones in each field.
--- After Warren, Hacker's Delight, 5-1; the laws for any width. Assumes nothing.
+-- Words as rows of fields: masks that keep the low half of each field, the sums of neighbouring fields, and the ones
+-- in each field. After Warren, Hacker's Delight, 5-1; the laws for any width. Assumes nothing.
 use mathlib.Core.Path.{_≡_, refl, sym, ap, ap₂, _∙_}
 use Prim.Native.Nat.{ℕ, zero, suc, _+_, _-_, _*_, _/_, _%_, _^_, _≤_, _<_}
 use native.Mathlib.Nat.{mod-lt, mod-one, add-mul, lt-suc-self, lt-of-lt-of-le, le-add-right, lt-of-le-of-lt}

@@ -1,4 +1,5 @@
--- What the sequence of ORC.B computes: for each byte, whether a carry out of its low seven bits or its high bit says that it is not 0. Assumes nothing.
+-- What the sequence of ORC.B computes: for each byte, whether a carry out of its low seven bits or its high bit says
+-- that it is not 0. Assumes nothing.
 use mathlib.Core.Path.{_≡_, refl, sym, ap, ap₂, _∙_}
 use mathlib.Core.Bool.{Bool, true, false, cond}
 use Prim.Native.Nat.{ℕ, zero, suc, _+_, _-_, _*_, _/_, _%_, _^_, _≤_, _<_}

@@ -1,5 +1,5 @@
--- Counts of the k low bits of a number, as both manuals count them: the ISA's HighestSetBit and LowestSetBit (Zbb, CLZ and CTZ) and its loop over
--- the bits (CPOP), Arm's CountLeadingZeroBits. Definitions only.
+-- Counts of the k low bits of a number, as both manuals count them: the ISA's HighestSetBit and LowestSetBit (Zbb,
+-- CLZ and CTZ) and its loop over the bits (CPOP), Arm's CountLeadingZeroBits. Definitions only.
 use mathlib.Core.Bool.{cond}
 use Prim.Native.Nat.{ℕ, zero, suc, _+_, _/_, _%_, _^_}
 use lib.Dec.{eqb}
