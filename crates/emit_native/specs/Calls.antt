@@ -22,7 +22,8 @@ pub data Call : Type 0 where
 abbrev pub reg-off : ℕ → ℕ → ℕ
 reg-off slot-offset n = slot-offset + 8 * n
 
--- how calls are read: as the Rust does, or as the product does, whose load of register 0 is MOVZ with 0 (document 02, No. 6)
+-- whose translator: the Rust's, or the product's, whose load of register 0 is MOVZ with 0 (document 02, No. 6), and which
+-- takes Zbb before the Rust's instructions (No. 7)
 pub data Dialect : Type 0 where
   rust : Dialect
   product : Dialect

@@ -148,7 +148,7 @@ pub record Block : Type 0 where
   pub count : ℕ
   pub stop : Stop
 
--- d: how its calls are read; the Rust's is rust
+-- d: whose inline emitter, and how its calls are read; the Rust's is rust
 abbrev pub block-of : Dialect → Host → Walk → Block
 block-of d h w = record { code = bytes (words-in d (h .«slot_offset») (block-calls w)); count = w .count; stop = w .stop }
 

@@ -1,4 +1,5 @@
--- FENCE.I ends a block (document 02, No. 3): such a block is the Rust's, with its own count as the limit. The Rust itself goes on behind FENCE.I.
+-- FENCE.I ends a block (document 02, No. 3): such a block is the walk's with its own count as the limit. The walk itself,
+-- the Rust's or the product's, goes on after FENCE.I.
 use Prim.Native.Nat.{ℕ, zero, suc, _+_}
 use mathlib.Core.Bool.{Bool, cond, _&&_}
 use mathlib.Core.List.{List}
@@ -14,7 +15,7 @@ use Rattle.jit_arm64.specs.Block.{fetch, size-of, whole-walk}
 abbrev pub is-fence-i : ℕ → Bool
 is-fence-i instr = eqb (opcode instr) 0b0001111 && eqb (funct3 instr) 0b001
 
--- the instruction that was fetched, after so many others; rest: the search behind it, from its length on
+-- the instruction that was fetched, after so many others; rest: the search after it, from its length on
 unfoldable pub fence-or : Option ℕ → ℕ → (ℕ → Option ℕ) → Option ℕ
 fence-or none before rest = none
 fence-or (some instr) before rest = cond (is-fence-i instr) (some (suc before)) (rest (size-of instr))

@@ -41,7 +41,7 @@ short-words = short-instrs * inline-words + end-words
 abbrev pub max-slot-offset : ℕ
 max-slot-offset = 8 * (4095 - 31)
 
--- the most bytes of a line of a listing: `subs xzr, x30, x30, lsl #0` behind two numbers of eight digits
+-- the most bytes of a line of a listing: `subs xzr, x30, x30, lsl #0` after two numbers of eight digits
 abbrev pub longest-line : ℕ
 longest-line = 45
 

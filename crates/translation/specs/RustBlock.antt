@@ -30,7 +30,7 @@ abbrev pub Free : Option ℕ → (ℕ → Type 0) → Type 0
 Free none rest = Unit {0}
 Free (some instr) rest = (zbb-of instr ≡ Found.Nothing) × rest (size-of instr)
 
--- none of the first n instructions from index i on is (document 02, No. 7)
+-- none of the first n instructions from index i on is Zbb's (document 02, No. 7)
 abbrev pub ZbbFree : List ℕ → ℕ → ℕ → ℕ → Type 0
 ZbbFree guest start zero i = Unit {0}
 ZbbFree guest start (suc n) i = Free (fetch (add start i) guest i) (λ (size : ℕ). ZbbFree guest start n (i + size))
