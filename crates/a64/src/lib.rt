@@ -1,4 +1,6 @@
 // The A64 forms that `A64Emitter` and the literal RET produce, and the form of a word.
+#![tactic(auto)]
+
 ghost use Rattle.std.specs.Prelude.{◌≡◌};
 ghost use Rattle.a64.specs.declared.Form.TheVariants.{Unreadable};
 ghost use Rattle.a64.specs.Forms.{decode, decode_op, decode_one, decode_register, form_if, ops};

@@ -1,4 +1,6 @@
 // What the forms compute from registers and flags.
+#![tactic(auto)]
+
 ghost use Rattle.std.specs.Prelude.{◌≡◌, ◌/◌, ◌<◌, ◌≤◌, length, if◌then◌else◌, slice_index};
 ghost use Rattle.a64_alu.specs.Alu.{op_value, op1_value, compared, holds_even, holds, insert};
 ghost use Rattle.a64_alu.specs.Nzcv.{flags_of, nzcv_of};

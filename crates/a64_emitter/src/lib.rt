@@ -1,4 +1,6 @@
 // `A64Emitter` of hart.rs: its word writers, and the emitters of an instruction's words and of a block's.
+#![tactic(auto)]
+
 ghost use Rattle.std.specs.Prelude.{◌≡◌, ℕ, ◌+◌, ◌<◌, ◌≤◌, min, List, [], ◌∷◌, length, take};
 ghost use Rattle.le.specs.Le.{store};
 ghost use Rattle.a64_emitter.specs.Parts.{held, block_words, short_block_words, emitted_in, emitted_if, constant_if, InstrArray, Adds, Added, Copied, Written};

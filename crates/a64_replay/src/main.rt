@@ -1,4 +1,6 @@
 // Replays what an Arm machine was recorded to do, and document 01's own rules (machines/README.md has the format).
+#![tactic(auto)]
+
 use a64_exec::state::A64State;
 use a64_run::run;
 use a64_run::run::Answer;

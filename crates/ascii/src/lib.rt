@@ -1,4 +1,6 @@
 // Bytes and numbers written from a place on: each function that answers a place answers the one after what it wrote.
+#![tactic(auto)]
+
 ghost use Rattle.std.specs.Prelude.{◌≡◌, ◌∷◌, [], ◌+◌, ◌/◌, ◌%◌, ◌<◌, ◌≤◌, length};
 ghost use Rattle.le.specs.Le.{bytes};
 ghost use Rattle.ascii.specs.Ascii.{digit, hex, decimal};

@@ -1,4 +1,6 @@
 // The index of blocks by address space and PC (document 02, No. 2), in bytes that are lent; block_log has their layout.
+#![tactic(auto)]
+
 ghost use Rattle.std.specs.Prelude.{◌≡◌, ◌+◌, ◌^◌, ◌≤◌, ◌<◌, length};
 ghost use Rattle.block_log.specs.Log as L;
 ghost use Rattle.block_index.specs.Model as Model;

@@ -1,4 +1,6 @@
 // The bytes of an index: a log of slots, and a chain of slots for each bucket. specs/Log.antt has the layout.
+#![tactic(auto)]
+
 ghost use Rattle.std.specs.Prelude.{◌≡◌, ◌+◌, ◌<◌, ◌≤◌, length};
 ghost use Rattle.le.specs.Le.{store};
 ghost use Rattle.block_log.specs.Log as L;

@@ -1,5 +1,7 @@
 // Replays Translate: document 01's marked blocks (marked.bin), and cases that emuko's Rust answered (blocks.bin).
 // rust/oracle/README.md has the format of both files.
+#![tactic(auto)]
+
 use emit_native::Host;
 use libc::STDOUT_FILENO;
 use translator::Answer;

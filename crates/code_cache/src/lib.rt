@@ -1,4 +1,6 @@
 // Operation Place: a block's bytes after what a store holds.
+#![tactic(auto)]
+
 ghost use Rattle.std.specs.Prelude.{◌≡◌, ◌+◌, ◌≤◌, length};
 ghost use Rattle.le.specs.Le.{splice};
 ghost use Rattle.code_cache.specs.Place as P;

@@ -1,4 +1,6 @@
 // What the emitters of jit_arm64.rs share: their answer, what the host gives, and calls.
+#![tactic(auto)]
+
 use a64_emitter::InstrEmitter;
 
 pub mod calls;

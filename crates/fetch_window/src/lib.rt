@@ -1,4 +1,6 @@
 // The fetch window: `read_u16` of the original's `Bus`, for instruction fetches.
+#![tactic(auto)]
+
 ghost use Rattle.std.specs.Prelude.{◌≡◌};
 ghost use Rattle.fetch_window.specs.Parts.{halfword_at, read_u16};
 

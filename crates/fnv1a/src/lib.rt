@@ -1,4 +1,6 @@
 // FNV-1a of 32 bits.
+#![tactic(auto)]
+
 ghost use Rattle.std.specs.Prelude.{◌≡◌, ◌*◌, ◌%◌, ◌^◌};
 ghost use Rattle.le.specs.Le.{bytes};
 ghost use Rattle.fnv1a.specs.Fnv1a as F;

@@ -1,4 +1,6 @@
 // The hashes of texts whose FNV-1a of 32 bits is published (test_fnv.c of the FNV reference code by Noll); `stdout` has the values printed there.
+#![tactic(auto)]
+
 use libc::STDOUT_FILENO;
 
 fn print_hash(text: &[u8]) {

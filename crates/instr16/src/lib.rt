@@ -1,4 +1,6 @@
 // `emit_native_instr16`.
+#![tactic(auto)]
+
 ghost use Rattle.std.specs.Prelude.{◌≡◌, ◌+◌, ◌/◌, ◌%◌, ◌<◌, ◌≤◌};
 ghost use Rattle.rules.specs.Limits.{max_slot_offset};
 ghost use Rattle.a64_emitter.specs.Parts.{held, InstrArray};

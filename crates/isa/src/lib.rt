@@ -1,4 +1,6 @@
 // Instruction fields, immediates and opcode classes: isa.rs and decode.rs.
+#![tactic(auto)]
+
 pub mod classes;
 pub mod decode;
 pub mod zbb;

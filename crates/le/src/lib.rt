@@ -1,4 +1,6 @@
 // Little-endian numbers in byte slices.
+#![tactic(auto)]
+
 ghost use Rattle.std.specs.Prelude.{◌≡◌, ◌+◌, ◌*◌, ◌<◌, ◌≤◌, length};
 ghost use Rattle.le.specs.Le.{load, store, numbers};
 ghost use Rattle.le.specs.Parts.{over};

@@ -1,4 +1,6 @@
 // Document 02's listing: List on what standard input holds.
+#![tactic(auto)]
+
 use libc::{STDIN_FILENO, STDOUT_FILENO};
 use listing::Listed;
 use rules::refusals;

@@ -1,4 +1,6 @@
 // Replays List: blocks whose words GNU as made of the lines' texts (machines/README.md has the format).
+#![tactic(auto)]
+
 use listing::Listed;
 
 // Every byte of an output before List; no line has it.

@@ -1,4 +1,6 @@
 // Operation List: a block's words, one line each.
+#![tactic(auto)]
+
 ghost use Rattle.std.specs.Prelude.{◌≡◌, true, false, ◌+◌, ◌^◌, ◌≤◌, ltb, length};
 ghost use Rattle.ascii.specs.Parts.{Put};
 ghost use Rattle.listing.specs.Listing as L;

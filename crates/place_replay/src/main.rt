@@ -1,4 +1,6 @@
 // Replays what the Rust's `alloc` was recorded to do (rust/oracle/README.md has the format).
+#![tactic(auto)]
+
 ghost use Rattle.std.specs.Prelude.{◌<◌};
 
 use replay::Outcome;

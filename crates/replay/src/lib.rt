@@ -1,4 +1,6 @@
 // What the programs share that replay recorded cases: reading a file of them, counting, and the report.
+#![tactic(auto)]
+
 ghost use Rattle.std.specs.Prelude.{◌≡◌, ◌-◌, ◌≤◌, true, if◌then◌else◌};
 ghost use Rattle.replay.specs.declared.Outcome.{Outcome};
 

@@ -1,4 +1,6 @@
 // The numbers of document 01 that its requests move; specs/Limits.antt and specs/Refusals.antt are their definitions.
+#![tactic(auto)]
+
 pub mod refusals;
 
 // The most instructions of a block (rule 1).

@@ -1,4 +1,6 @@
 // Replays what a RISC-V machine was recorded to do, and document 01's own rules (machines/README.md has the formats).
+#![tactic(auto)]
+
 use rv64_run::run;
 use rv64_run::run::Hart;
 

@@ -1,4 +1,6 @@
 // The 16-bit encodings, and what the instructions that they stand for do.
+#![tactic(auto)]
+
 ghost use Rattle.std.specs.Prelude.{◌≡◌, ◌+◌, ◌*◌, if◌then◌else◌, ◌==◌};
 ghost use Rattle.isa.specs.Formats as F;
 ghost use Rattle.word.specs.Word as W;

@@ -1,4 +1,6 @@
 // `emit_native_term_helper16` and `emit_native_term_helper32`: the call of a helper that ends the block.
+#![tactic(auto)]
+
 ghost use Rattle.std.specs.Prelude.{◌≡◌, [], ◌∷◌, ℕ, ◌≤◌};
 ghost use Rattle.rules.specs.Limits.{max_slot_offset};
 ghost use Rattle.a64_emitter.specs.Parts.{held, InstrArray, Adds};

@@ -1,4 +1,6 @@
 // Document 01's program: Translate on what standard input holds.
+#![tactic(auto)]
+
 use emit_native::Host;
 use libc::{STDIN_FILENO, STDOUT_FILENO};
 use translator::Answer;

@@ -1,6 +1,8 @@
 // Operation Translate with demands 2 and 3: a block's words are the Rust's where no instruction is Zbb's, and what they
 // do to the slots is what the ISA does to the guest's registers; the same up to a helper's call and after it (document
 // 02, No. 5). How long a block may be (document 02, No. 7).
+#![tactic(auto)]
+
 ghost use Rattle.std.specs.Prelude.{◌≡◌, length, take};
 ghost use Rattle.translator.specs.Translate.{result, translate};
 ghost use Rattle.translation.specs.Demand3.{HelperFree, Demand3};

@@ -1,4 +1,6 @@
 // The operation Translate: `compile_native_block`, with document 01's refusals around it.
+#![tactic(auto)]
+
 ghost use Rattle.std.specs.Prelude.{◌≡◌, [], false, ℕ, ◌*◌, ◌≤◌, min, length};
 ghost use Rattle.std.proofs.Math.Option.{Option};
 ghost use Rattle.rules.specs.Limits.{max_instrs, short_words, max_words};

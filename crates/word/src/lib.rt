@@ -1,4 +1,6 @@
 // Arithmetic of 64-bit registers that the language lacks. Each function equals the definition of its name.
+#![tactic(auto)]
+
 ghost use Rattle.std.specs.Prelude.{◌≡◌, ◌*◌, ◌^◌, ◌<◌, ◌≤◌};
 ghost use Rattle.word.specs.Word as W;
 

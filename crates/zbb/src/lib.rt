@@ -1,4 +1,6 @@
 // `emit_native_zbb`: the words of Zbb instructions (document 02, No. 7). Those with rs1 and rs2 stand here.
+#![tactic(auto)]
+
 ghost use Rattle.std.specs.Prelude.{[], ◌∷◌, ◌≡◌, ◌<◌, ◌≤◌};
 ghost use Rattle.rules.specs.Limits.{max_slot_offset};
 ghost use Rattle.a64_emitter.specs.Parts.{held, InstrArray};

@@ -1,0 +1,8 @@
+-- Assumes nothing.
+use Rattle.std.proofs.Common.{arith}
+use lib.Count.{ones-le}
+use Rattle.word.proofs.Counting.{ones_is}
+use Rattle.word.proofs.counts.cpop.Goals as goal
+
+pub returns : goal.returns
+returns c = ones_is 64 c.args.x c.ranges.x.fits

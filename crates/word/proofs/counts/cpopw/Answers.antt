@@ -1,0 +1,8 @@
+-- Assumes nothing.
+use Rattle.std.proofs.Common.{◌%◌, arith, rules}
+use lib.Count.{ones-le}
+use Rattle.word.proofs.Counting.{ones_low}
+use Rattle.word.proofs.counts.cpopw.Goals as goal
+
+pub returns : goal.returns
+returns c = ones_low 32 c.args.x

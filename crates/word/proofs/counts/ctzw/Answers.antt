@@ -1,0 +1,8 @@
+-- Assumes nothing.
+use Rattle.std.proofs.Common.{◌%◌, arith, rules}
+use lib.Count.{trailing_le}
+use Rattle.word.proofs.Counting.{trailing-low}
+use Rattle.word.proofs.counts.ctzw.Goals as goal
+
+pub returns : goal.returns
+returns c = trailing-low 32 c.args.x

@@ -1,0 +1,12 @@
+use Rattle.std.proofs.Common.{arith, rules, le-leb}
+use borrow.Author.Tests.{lt-leb}
+use Rattle.word.specs.Word.{magnitude}
+use Rattle.word.proofs.magnitude.Goals as goal
+
+pub returns-then-x-lt9223372036854775808 : goal.returns-then-x-lt9223372036854775808
+unfolding magnitude
+returns-then-x-lt9223372036854775808 c = rw (lt-leb _ _ c.if-x-lt9223372036854775808.true)
+
+pub returns-else-x-lt9223372036854775808 : goal.returns-else-x-lt9223372036854775808
+unfolding magnitude
+returns-else-x-lt9223372036854775808 c = rw (le-leb _ _ c.if-x-lt9223372036854775808.false) (omega arith)
