@@ -1,9 +1,0 @@
-use borrow.Author.Rules.{rules}
-use Rattle.a64_emitter.proofs.long_word.Statement.{statement}
-use Rattle.a64_emitter.proofs.long_word.Tie as tie
-
-returns : tie.Need-returns
-returns c = rw c.before.before.requires at c.emit-at-if.ensures
-
-pub long_word_spec : {M : Type 1} → statement M
-long_word_spec = tie.close (tie.spec (λ c κs. search rules) returns)

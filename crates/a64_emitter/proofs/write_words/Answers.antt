@@ -1,0 +1,32 @@
+use native.Mathlib.Omega.{arith}
+use borrow.Author.Rules.{rules}
+use Prim.Native.Nat.{◌≤◌, ◌-◌}
+use mathlib.Core.Path.{◌≡◌, refl, ◌∙◌}
+use lib.ListN.{length, take}
+use Rattle.le.specs.Le.{all_bytes}
+use Rattle.le.specs.Parts.{over}
+use Rattle.le.proofs.Lists.{write_more}
+use Rattle.a64_emitter.proofs.Emission.{all-written, none_written}
+use Rattle.a64_emitter.proofs.write_words.Goals as goal
+
+pub returns-then-out-n : goal.returns-then-out-n
+returns-then-out-n c = let a = c.args in
+    rw c.count_of-n.ensures (none_written _ a.words.now a.out.now a.len refl (rw c.count_of-n.ensures at c.if-out-n.true))
+
+pub loop-i-init : goal.loop-i-init
+unfolding all_bytes
+loop-i-init c = search rules
+
+pub loop-i-preserved : goal.loop-i-preserved
+loop-i-preserved c = let a = c.args in
+    let l = c.loop-i in
+    let k = c.count_of-n.ensures in
+    let s = c.write_word in
+    (search rules, s.auto.out ∙ l.invariant.1, write_more 4 a.words.now a.out.now _ _ l.i (omega arith) l.invariant.2 s.ensures)
+
+pub returns : goal.returns
+returns c = let a = c.args in
+    let l = c.loop-i in
+    let k = c.count_of-n in
+    let e : l.i ≡ k.result = omega arith in
+    rw k.ensures (all-written _ a.words.now a.out.now a.len refl (rw k.ensures at c.if-out-n.false) _ (rw (e, k.ensures) at l.invariant.2))

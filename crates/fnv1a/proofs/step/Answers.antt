@@ -1,0 +1,7 @@
+use borrow.Author.Rules.{rules}
+use Rattle.fnv1a.specs.Fnv1a as F
+use Rattle.fnv1a.proofs.step.Goals as goal
+
+pub returns : goal.returns
+unfolding F.step
+returns c = c.wrapping_mul.ensures
