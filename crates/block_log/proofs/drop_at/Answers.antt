@@ -1,0 +1,13 @@
+use borrow.Author.Rules.{rules}
+use Rattle.block_log.specs.Log.{dropped}
+use Rattle.block_log.proofs.drop_at.Goals as goal
+
+pub returns : goal.returns
+unfolding dropped
+returns c = rw (
+  c.store64.ensures,
+  c.unlink.ensures,
+  c.bucket-b.ensures.0,
+  c.pc_at.ensures,
+  c.space_at.ensures,
+)

@@ -1,0 +1,15 @@
+use borrow.Author.Rules.{rules}
+use Prim.Native.Nat.{◌≤◌, ◌-◌}
+use mathlib.Core.Path.{◌≡◌, refl}
+use mathlib.Core.List.{◌++◌}
+use lib.ListN.{drop}
+use Rattle.le.specs.Le.{bytes}
+use Rattle.block_log.proofs.Emptying.{zero_more, length_zeros}
+use native.Mathlib.Omega.{arith}
+use Rattle.block_log.proofs.empty.Given as goal
+
+abbrev pub invariant-loop-i : goal.invariant-loop-i
+invariant-loop-i l = (l.i ≤ 4098) × (l.m ≡ bytes l.i 0 ++ drop l.i l.initial.m)
+
+abbrev pub decreases-loop-i : goal.decreases-loop-i
+decreases-loop-i l = 4098 - l.i

@@ -1,0 +1,14 @@
+use borrow.Author.Rules.{rules}
+use Rattle.block_log.specs.Log.{pushed}
+use Rattle.block_log.proofs.push.Goals as goal
+
+pub returns : goal.returns
+unfolding pushed
+returns c = rw (
+  c.store16-2.ensures,
+  c.store16.ensures,
+  c.put.ensures,
+  c.cell-next.ensures.0,
+  c.bucket-b.ensures.0,
+  c.used.ensures.0,
+)

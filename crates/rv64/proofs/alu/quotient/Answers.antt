@@ -1,0 +1,15 @@
+use Rattle.std.proofs.Common.{rules, eq-eqb, ne_eqb}
+use Rattle.rv64.specs.Alu.{quotient}
+use Rattle.rv64.proofs.alu.quotient.Goals as goal
+
+pub returns-then-y-eq0 : goal.returns-then-y-eq0
+unfolding quotient
+returns-then-y-eq0 c = rw (eq-eqb _ _ c.if-y-eq0.true)
+
+pub returns-then-overflows : goal.returns-then-overflows
+unfolding quotient
+returns-then-overflows c = rw (ne_eqb _ _ c.if-y-eq0.false, ← c.overflows.ensures, c.if-overflows.true)
+
+pub returns : goal.returns
+unfolding quotient
+returns c = rw (c.sdiv.ensures, ne_eqb _ _ c.if-y-eq0.false, ← c.overflows.ensures, c.if-overflows.false)
