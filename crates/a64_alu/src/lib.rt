@@ -8,7 +8,7 @@ ghost use Rattle.a64_alu.specs.Nzcv.{flags_of, nzcv_of};
 use a64::{Op, Op1};
 
 // PSTATE.{N, Z, C, V}.
-#[derive(Drop)]
+#[derive(Clone, Copy)]
 pub struct Flags {
     pub n: bool,
     pub z: bool,

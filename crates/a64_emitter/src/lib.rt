@@ -19,7 +19,7 @@ pub struct A64Emitter {
 }
 
 // The same with less room: a block's words go here first, and where it is full the walk goes on in an `A64Emitter`.
-#[derive(Drop)]
+#[derive(Clone, Copy)]
 pub struct ShortEmitter {
     pub words: [u32; SHORT_WORDS],
     pub len: usize,

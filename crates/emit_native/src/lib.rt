@@ -6,7 +6,7 @@ use a64_emitter::InstrEmitter;
 pub mod calls;
 
 // What an emitter answers: the block goes on, ends, or the instruction is not inline.
-#[derive(Drop)]
+#[derive(Clone, Copy)]
 pub enum EmitFlow {
     Continue,
     Terminate,
@@ -21,7 +21,7 @@ pub struct Emitted {
 }
 
 // What the host gives: the slot offset, the three helpers' addresses, and whether C.EBREAK is ignored.
-#[derive(Drop)]
+#[derive(Clone, Copy)]
 pub struct Host {
     pub slot_offset: u64,
     pub memory_helper: u64,

@@ -4,7 +4,7 @@ ghost use Rattle.word.specs.Word.{sext};
 ghost use Rattle.isa.specs.Formats.{i_imm, s_imm, b_imm, u_imm, j_imm, ciw_imm, ci_imm, ci16_imm, cj_imm, cb_imm, shamt_c};
 ghost use Rattle.isa.specs.Parts.{decoded};
 
-#[derive(Drop)]
+#[derive(Clone, Copy)]
 pub struct Decoded32 {
     pub opcode: u8,
     pub rd: u8,

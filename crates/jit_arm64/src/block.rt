@@ -16,7 +16,7 @@ use emit_native::{EmitFlow, Emitted, Host};
 use rules::{END_WORDS, INLINE_WORDS, INSTR_WORDS, MAX_INSTRS, MAX_WORDS, SHORT_WORDS};
 
 // Why the walk over the guest code stopped.
-#[derive(Drop)]
+#[derive(Clone, Copy)]
 pub enum Stop {
     Limit,
     Ended,
@@ -27,7 +27,7 @@ pub enum Stop {
 
 // What the walk did: how many words there are, the index after its last inline instruction, how many instructions, why
 // it stopped, whether FENCE.I did that, and whether there was no room for one more.
-#[derive(Drop)]
+#[derive(Clone, Copy)]
 pub struct Walked {
     pub len: usize,
     pub i: usize,

@@ -28,14 +28,14 @@ uncovered w h =
     (λ a b c. rw (a, b, c), tt)
 
 -- an effect that is not Uncovered stands
-pub kept : (e f : Effect) → OneOf (0 ∷ 1 ∷ 2 ∷ 3 ∷ 4 ∷ []) (tag_of Effects.the_type e) → e ≡ S.or_else e f
+pub kept : (e f : Effect) → (e ≡ Effect.Uncovered → ⊥) → e ≡ S.or_else e f
 unfolding S.or_else
 kept (Effect.Set rd v) f a = refl
 kept (Effect.Link rd to) f a = refl
 kept (Effect.Ended to) f a = refl
 kept Effect.Next f a = refl
 kept Effect.Helper f a = refl
-kept Effect.Uncovered f a = absurd (miss (0 ∷ 1 ∷ 2 ∷ 3 ∷ 4 ∷ []) 5 tt a)
+kept Effect.Uncovered f a = absurd (a refl)
 
 or_uncovered : (e : Effect) → S.or_else e Effect.Uncovered ≡ e
 unfolding S.or_else

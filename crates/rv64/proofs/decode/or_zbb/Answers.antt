@@ -8,4 +8,4 @@ unfolding S.or_else S.zbb_effect
 returns-in-Uncovered c = rw (c.put.ensures, c.computed.ensures, c.read-b.ensures, c.read-a.ensures, c.in-Uncovered.is)
 
 pub returns-in_default : goal.returns-in_default
-returns-in_default c = kept c.args.e _ c.in_default.is
+returns-in_default c = kept c.args.e _ c.in_default.not-Uncovered

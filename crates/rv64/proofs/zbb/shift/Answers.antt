@@ -11,8 +11,8 @@ use Rattle.rv64.proofs.zbb.shift.Goals as goal
 
 pub returns-in-25235 : goal.returns-in-25235
 unfolding Z.shift_of Z.shifts S.zbb_computed zbb_value
-returns-in-25235 c = rw (c.ror.ensures, ← c.funct6_key.ensures, c.in-25235.is, mod-mod _ 64)
+returns-in-25235 c y = rw (c.ror.ensures, ← c.funct6_key.ensures, c.in-25235.is, mod-mod _ 64)
 
 pub returns-in_default : goal.returns-in_default
 unfolding Z.shift_of Z.shifts S.zbb_computed zbb_value
-returns-in_default c = rw (← c.funct6_key.ensures) (ap (λ (f : Found). S.zbb_computed f c.args.x y) (missed _ (λ (z : Zbb). Found.Number z (inst 25 20 c.args.w)) Found.Nothing _ Z.shifts c.in_default.in_default-own.rest))
+returns-in_default c y = rw (← c.funct6_key.ensures) (ap (λ (f : Found). S.zbb_computed f c.args.x y) (missed _ (λ (z : Zbb). Found.Number z (inst 25 20 c.args.w)) Found.Nothing _ Z.shifts c.in_default.in_default-own.rest))
