@@ -11,8 +11,7 @@ use Rattle.a64_emitter.specs.Writers.{str_x}
 use Rattle.emit_native.specs.Calls.{groups, reg_off, store_rd}
 use Rattle.emit_native.specs.Parts.{stores}
 use Rattle.emit_native.proofs.Size.{by}
-use Rattle.emit_native.proofs.calls.store_rd.Statement.{statement}
-use Rattle.emit_native.proofs.calls.store_rd.Tie as tie
+use Rattle.emit_native.proofs.calls.store_rd.Goals as goal
 
 -- the store as one word that is written where it is wanted
 chosen : (h : List ℕ) (slot_offset : ℕ) (f : EmitFlow) (rd : ℕ)
@@ -22,10 +21,5 @@ chosen h slot_offset Continue rd = by (eqb rd 0) (λ t. rw t (emitted-none _ h))
 chosen h slot_offset Terminate rd = emitted-none _ h
 chosen h slot_offset None rd = emitted-none _ h
 
-returns : tie.Need-returns
-returns c =
-    (record { long = c.emit-if.ensures.long; holds = rw (c.emit-if.ensures.holds, c.before.str_x.ensures, c.before.before.reg_off.ensures.0, c.before.before.before.before.stores.ensures) (chosen _ _ _ _) }, refl)
-
-pub store_rd_spec : {M : Type 1} → statement M
-store_rd_spec =
-    tie.close (tie.spec (λ c κs. search rules) (λ c κs. search rules) (λ c κs. search rules) (λ c κs. search rules) returns)
+pub returns : goal.returns
+returns c = (record { long = c.emit_if-em.ensures.long; holds = rw (c.emit_if-em.ensures.holds, c.str_x.ensures, c.reg_off.ensures.0, c.stores-test.ensures) (chosen _ _ _ _) }, refl)
