@@ -90,7 +90,7 @@ pub extern "C" fn hilofanur_translate(
     helper16: u64,
     output: &mut [u8],
 ) -> TranslateAnswer
-    ensures output_after { Answers.translate_result result output.new ≡ Answers.translate guest.now pc limit (Answers.host ignore_ebreak slot_offset memory_helper helper32 helper16) output.old }
+    ensures answer { Answers.translate_result result output.new ≡ Answers.translate guest.now pc limit (Answers.host ignore_ebreak slot_offset memory_helper helper32 helper16) output.old }
     ensures demand3 { HelperFree result.end → Demand3 guest.now pc limit ignore_ebreak slot_offset (take result.length output.new) result.count }
     ensures helper_block { HelperEnded result.end → HelperBlock (Answers.host ignore_ebreak slot_offset memory_helper helper32 helper16) guest.now pc limit (take result.length output.new) result.count }
     ensures rust_block { result.refusal ≡ 0 → ZbbFree guest.now pc result.count 0 → RustBlock (Answers.host ignore_ebreak slot_offset memory_helper helper32 helper16) guest.now pc limit (take result.length output.new) result.count }
@@ -187,18 +187,19 @@ pub extern "C" fn hilofanur_rv64_run(
     let why = answer.refusal;
     let refusal = rv64_run::run::number(why);
     let after = answer.hart;
+    let next_pc = after.pc;
     if refusal != 0 {
         return Rv64RunAnswer {
             refusal: refusal,
             count: answer.count,
-            next_pc: after.pc,
+            next_pc: next_pc,
         };
     }
     rv64_hart::to_bytes(after, registers);
     Rv64RunAnswer {
         refusal: refusal,
         count: answer.count,
-        next_pc: after.pc,
+        next_pc: next_pc,
     }
 }
 

@@ -9,4 +9,4 @@ returns-in-Helper c = rw c.in-Helper.is refl
 
 pub returns : goal.returns
 unfolding has_return
-returns c = sym (returned c.args.stop c.in_default.in_default-own.keys2)
+returns c = sym (returned c.args.stop c.in_default.not-Helper)

@@ -9,4 +9,4 @@ returns-in-Terminate c = rw c.in-Terminate.is refl
 
 pub returns : goal.returns
 unfolding helped_count
-returns c = sym (not_taken c.args.flow c.in_default.in_default-own.keys2).0
+returns c = sym (not_taken c.args.flow c.in_default.not-Terminate).0

@@ -9,4 +9,4 @@ returns-in-Terminate c = rw c.in-Terminate.is refl
 
 pub returns : goal.returns
 unfolding helped_stop
-returns c = sym (not_taken c.args.flow c.in_default.in_default-own.keys2).1
+returns c = sym (not_taken c.args.flow c.in_default.not-Terminate).1

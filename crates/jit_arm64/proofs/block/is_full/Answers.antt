@@ -13,4 +13,4 @@ returns-in-Limit c = rw (c.in-Limit.is, c.if-fence.false) refl
 
 pub returns : goal.returns
 unfolding is_full
-returns c = sym (not_full c.args.stop _ _ _ c.in_default.in_default-own.keys2)
+returns c = sym (not_full c.args.stop _ _ _ c.in_default.not-Limit)

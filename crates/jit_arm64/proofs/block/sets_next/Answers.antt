@@ -13,4 +13,4 @@ returns-in-Ended c = rw c.in-Ended.is refl
 
 pub returns : goal.returns
 unfolding sets_next
-returns c = sym (next-set c.args.stop c.in_default.in_default-own.keys2 c.in_default-stop.in_default-stop-own.keys2)
+returns c = sym (next-set c.args.stop c.in_default.not-Helper c.in_default-stop.not-Ended)
