@@ -1,0 +1,27 @@
+use Rattle.std.proofs.Common.{refl, rules, ne_eqb}
+use Rattle.instr32.specs.Instr32.{op_32_arm}
+use Rattle.instr32.proofs.op_32.emit_op_32_muldiv.Goals as goal
+
+pub returns-in-0 : goal.returns-in-0
+unfolding op_32_arm
+returns-in-0 c slot_offset = rw c.in-0.is (c.go_on.ensures _ _ _ _ c.emit_sxtw.ensures.long (rw (c.emit_sxtw.ensures.holds, c.emit.ensures.holds, c.mul_x.ensures)))
+
+pub returns-in-4 : goal.returns-in-4
+unfolding op_32_arm
+returns-in-4 c slot_offset = rw c.in-4.is (c.go_on-in-4.ensures _ _ _ _ c.emit_sxtw-in-4.ensures.long (rw (c.emit_sxtw-in-4.ensures.holds, c.emit_zero_divisor.ensures.holds, c.emit-em.ensures.holds, c.sdiv_x.ensures, c.emit_sign_extended.ensures.holds)))
+
+pub returns-in-5 : goal.returns-in-5
+unfolding op_32_arm
+returns-in-5 c slot_offset = rw c.in-5.is (c.go_on-in-5.ensures _ _ _ _ c.emit_sxtw-in-5.ensures.long (rw (c.emit_sxtw-in-5.ensures.holds, c.emit_zero_divisor-in-5.ensures.holds, c.emit-em-in-5.ensures.holds, c.udiv_x.ensures, c.emit_zero_extended.ensures.holds)))
+
+pub returns-in-6 : goal.returns-in-6
+unfolding op_32_arm
+returns-in-6 c slot_offset = rw c.in-6.is (c.go_on-in-6.ensures _ _ _ _ c.emit_sxtw-in-6.ensures.long (rw (c.emit_sxtw-in-6.ensures.holds, c.emit_remainder.ensures.holds, c.sdiv_x-w.ensures, c.emit_sign_extended-em.ensures.holds)))
+
+pub returns-in-7 : goal.returns-in-7
+unfolding op_32_arm
+returns-in-7 c slot_offset = rw c.in-7.is (c.go_on-in-7.ensures _ _ _ _ c.emit_sxtw-in-7.ensures.long (rw (c.emit_sxtw-in-7.ensures.holds, c.emit_remainder-in-7.ensures.holds, c.udiv_x-w.ensures, c.emit_zero_extended-em.ensures.holds)))
+
+pub returns-in_default : goal.returns-in_default
+unfolding op_32_arm
+returns-in_default c slot_offset = rw (ne_eqb _ _ c.in_default.in_default-own.rest.0.0.0.0.1, ne_eqb _ _ c.in_default.in_default-own.rest.0.0.0.1, ne_eqb _ _ c.in_default.in_default-own.rest.0.0.1, ne_eqb _ _ c.in_default.in_default-own.rest.0.1, ne_eqb _ _ c.in_default.in_default-own.rest.1) (c.none.ensures _ _ _ _ c.requires refl)
