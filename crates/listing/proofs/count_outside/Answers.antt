@@ -1,0 +1,22 @@
+use borrow.Author.Rules.{rules}
+use native.Mathlib.Omega.{arith}
+use Prim.Native.Nat.{◌≤◌, ◌+◌, ◌-◌, ◌/◌, ◌*◌}
+use mathlib.Core.Path.{◌≡◌, refl}
+use lib.ListN.{length}
+use Rattle.le.specs.Le.{load}
+use Rattle.a64.specs.Forms.{decode}
+use Rattle.listing.specs.Listing.{block_lines}
+use Rattle.listing.specs.Parts.{outside_count}
+use Rattle.listing.proofs.Lines.{lines_from, next-count, ended-count, outside_at_most}
+use Rattle.listing.proofs.count_outside.Goals as goal
+
+pub loop-i-preserved : goal.loop-i-preserved
+loop-i-preserved c = let b = c.args.block.now in
+    let l = c.loop-i in
+    let q = rw c.load32.ensures at c.is_outside-n.ensures in
+    let w = decode (load 4 b (4 * l.i)) in
+    (refl, omega arith, omega (arith, q, outside_at_most w), omega (arith, q, next-count b l.i (omega arith)))
+
+pub returns : goal.returns
+returns c = let l = c.loop-i in
+    omega (arith, ended-count c.args.block.now l.i (omega arith))

@@ -1,0 +1,17 @@
+use borrow.Author.Rules.{rules}
+use native.Mathlib.Omega.{arith}
+use Prim.Native.Nat.{◌≤◌, ◌+◌, ◌-◌, ◌/◌, ◌*◌}
+use mathlib.Core.Path.{◌≡◌, refl}
+use lib.ListN.{length}
+use Rattle.le.specs.Le.{load}
+use Rattle.a64.specs.Forms.{decode}
+use Rattle.listing.specs.Listing.{block_lines}
+use Rattle.listing.specs.Parts.{outside_count}
+use Rattle.listing.proofs.Lines.{lines_from, next-count, ended-count, outside_at_most}
+use Rattle.listing.proofs.count_outside.Given as goal
+
+abbrev pub invariant-loop-i : goal.invariant-loop-i
+invariant-loop-i l = (l.count ≡ length l.block / 4) × (l.i ≤ l.count) × (l.n ≤ l.i) × (l.n + outside_count (lines_from l.block l.i) ≡ outside_count (block_lines l.block))
+
+abbrev pub decreases-loop-i : goal.decreases-loop-i
+decreases-loop-i l = l.count - l.i

@@ -1,0 +1,36 @@
+use borrow.Author.Rules.{rules}
+use native.Mathlib.Omega.{arith}
+use Prim.Native.Nat.{◌≤◌, ◌-◌, ◌/◌, ◌+◌, ◌*◌}
+use mathlib.Core.Path.{◌≡◌, refl, ap, ◌∙◌}
+use mathlib.Core.Bool.{false}
+use lib.ListN.{length}
+use Rattle.le.specs.Le.{load}
+use Rattle.rules.specs.Limits.{longest_line}
+use Rattle.listing.specs.Listing.{block_lines, listing, any_outside}
+use Rattle.listing.proofs.Bound.{line_bound}
+use Rattle.listing.proofs.Lines.{lines_from, inside, next-length, ended-listing}
+use Rattle.listing.proofs.listing_length.Goals as goal
+
+pub put_line-total-requires : goal.put_line-total-requires
+put_line-total-requires c = let b = c.args.block.now in
+    let l = c.loop-i in
+    let o = inside b l.i (omega arith) l.invariant.2 in
+    rw c.load32.ensures (omega (arith, line_bound (4 * l.i) (load 4 b (4 * l.i)) o.0), o.0)
+
+pub loop-i-preserved : goal.loop-i-preserved
+loop-i-preserved c = let b = c.args.block.now in
+    let l = c.loop-i in
+    let o = inside b l.i (omega arith) l.invariant.2 in
+    let p = rw c.load32.ensures at c.put_line-total.ensures in
+    let n = next-length b l.i (omega arith) in (
+      refl,
+      omega arith,
+      o.1,
+      c.put_line-total.auto.out ∙ l.invariant.3,
+      omega (arith, p.next),
+      omega (arith, p.next, line_bound (4 * l.i) (load 4 b (4 * l.i)) o.0),
+    )
+
+pub returns : goal.returns
+returns c = let l = c.loop-i in
+    omega (arith, ap length (ended-listing c.args.block.now l.i (omega arith)))

@@ -1,0 +1,39 @@
+use borrow.Author.Rules.{rules}
+use native.Mathlib.Omega.{arith}
+use Prim.Native.Nat.{◌≤◌, ◌-◌, ◌/◌, ◌+◌}
+use mathlib.Core.Path.{◌≡◌, refl, sym, ap, ◌∙◌}
+use mathlib.Core.Bool.{false}
+use lib.ListN.{length}
+use Rattle.le.specs.Le.{splice}
+use Rattle.le.proofs.Splices.{splice_nothing}
+use Rattle.listing.specs.Listing.{block_lines, listing, any_outside}
+use Rattle.listing.proofs.Lines.{lines_from, inside, next-length, ended-listing, splice-next}
+use Rattle.listing.proofs.put_lines.Goals as goal
+
+pub put_line-at-requires : goal.put_line-at-requires
+put_line-at-requires c = let b = c.args.block.now in
+    let l = c.loop-i in
+    rw c.load32.ensures (omega (arith, next-length b l.i (omega arith)), (inside b l.i (omega arith) l.invariant.2).0)
+
+pub loop-i-preserved : goal.loop-i-preserved
+loop-i-preserved c = let b = c.args.block.now in
+    let l = c.loop-i in
+    let p = rw c.load32.ensures at c.put_line-at.ensures in
+    let n = next-length b l.i (omega arith) in (
+      refl,
+      omega arith,
+      (inside b l.i (omega arith) l.invariant.2).1,
+      omega (arith, p.next),
+      c.put_line-at.auto.out ∙ l.invariant.4,
+      splice-next b l.i (omega arith) p ∙ l.invariant.5,
+    )
+
+pub returns : goal.returns
+returns c = let b = c.args.block.now in
+    let l = c.loop-i in
+    let e = ended-listing b l.i (omega arith) in
+    record {
+      written = sym (splice_nothing _ l.at) ∙ rw e at l.invariant.5;
+      next = omega (arith, ap length e);
+      room = omega arith;
+    }

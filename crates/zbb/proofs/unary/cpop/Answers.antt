@@ -1,0 +1,11 @@
+use mathlib.Core.List.{◌++◌}
+use Rattle.isa.specs.declared.zbb.Zbb.{Zbb}
+use Rattle.zbb.specs.Words.{zbb_body}
+use Rattle.zbb.specs.Emission.{emission}
+use Rattle.zbb.specs.Parts.{operand}
+use borrow.Author.Rules.{rules}
+use Rattle.zbb.proofs.unary.cpop.Goals as goal
+
+pub returns : goal.returns
+unfolding zbb_body emission
+returns c = c.finish.ensures _ (operand c.args.instr ++ zbb_body Zbb.Cpop) (rw (c.emit_ones.ensures.holds, c.load_one-em.ensures.holds))
