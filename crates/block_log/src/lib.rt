@@ -18,7 +18,7 @@ const LOG: usize = 2 * BUCKETS;
 const SLOT_BYTES: usize = 40;
 
 // What the index holds of a block.
-#[derive(Drop)]
+#[derive(Clone, Copy)]
 pub struct Entry {
     pub space: u64,
     pub pc: u64,

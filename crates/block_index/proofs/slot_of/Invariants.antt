@@ -1,0 +1,15 @@
+use borrow.Author.Rules.{rules}
+use Prim.Native.Nat.{◌<◌}
+use mathlib.Core.Path.{◌≡◌, sym, ◌∙◌}
+use Rattle.block_log.proofs.Walks.{walk_start, walk_none, walk_hit, walk-on, walk_end}
+use Rattle.block_log.specs.Log as L
+use Rattle.block_index.specs.Index.{block_at, slot_of}
+use native.Mathlib.Omega.{arith}
+use Rattle.block_index.proofs.slot_of.Given as goal
+
+-- the walk from here ends as the whole does
+abbrev pub invariant-loop-p : goal.invariant-loop-p
+invariant-loop-p l = (l.p < L.slots) × (L.walk l.m (block_at l.m l.space l.pc) l.p l.p ≡ slot_of l.m l.space l.pc)
+
+abbrev pub decreases-loop-p : goal.decreases-loop-p
+decreases-loop-p l = l.p
