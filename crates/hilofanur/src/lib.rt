@@ -90,7 +90,7 @@ pub extern "C" fn hilofanur_translate(
     helper16: u64,
     output: &mut [u8],
 ) -> TranslateAnswer
-    ensures output_after { Answers.translate_result result output.new ≡ Answers.translate guest.now pc limit (Answers.host ignore_ebreak slot_offset memory_helper helper32 helper16) output.old }
+    ensures answer { Answers.translate_result result output.new ≡ Answers.translate guest.now pc limit (Answers.host ignore_ebreak slot_offset memory_helper helper32 helper16) output.old }
     ensures demand3 { HelperFree result.end → Demand3 guest.now pc limit ignore_ebreak slot_offset (take result.length output.new) result.count }
     ensures helper_block { HelperEnded result.end → HelperBlock (Answers.host ignore_ebreak slot_offset memory_helper helper32 helper16) guest.now pc limit (take result.length output.new) result.count }
     ensures rust_block { result.refusal ≡ 0 → ZbbFree guest.now pc result.count 0 → RustBlock (Answers.host ignore_ebreak slot_offset memory_helper helper32 helper16) guest.now pc limit (take result.length output.new) result.count }

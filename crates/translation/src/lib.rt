@@ -4,7 +4,7 @@
 #![tactic(auto)]
 
 ghost use Rattle.std.specs.Prelude.{◌≡◌, length, take};
-ghost use Rattle.translator.specs.Translate.{result, translate};
+ghost use Rattle.translator.specs.Translate as T;
 ghost use Rattle.translation.specs.Demand3.{HelperFree, Demand3};
 ghost use Rattle.translation.specs.HelperBlock.{HelperEnded, HelperBlock};
 ghost use Rattle.translation.specs.RustBlock.{ZbbFree, RustBlock};
@@ -14,11 +14,11 @@ use emit_native::Host;
 use translator::Answer;
 
 pub fn translate(guest: &[u8], pc: u64, limit: u32, host: Host, output: &mut [u8]) -> Answer
-    ensures* output_after { λ r. ⌜ result r output.new ≡ translate host guest.now pc limit output.old ⌝ }
-    ensures* fact { λ r. ⌜ (HelperFree r.end → Demand3 guest.now pc limit host.ignore_ebreak host.slot_offset (take r.length output.new) r.count) ⌝ }
-    ensures* fact_2 { λ r. ⌜ (HelperEnded r.end → HelperBlock host guest.now pc limit (take r.length output.new) r.count) ⌝ }
-    ensures* fact_3 { λ r. ⌜ (r.refusal ≡ 0 → ZbbFree guest.now pc r.count 0 → RustBlock host guest.now pc limit (take r.length output.new) r.count) ⌝ }
-    ensures* fact_4 { λ r. ⌜ Size host limit (length output.old) r.refusal r.length ⌝ }
+    ensures answer { T.result result output.new ≡ T.translate host guest.now pc limit output.old }
+    ensures demand3 { HelperFree result.end → Demand3 guest.now pc limit host.ignore_ebreak host.slot_offset (take result.length output.new) result.count }
+    ensures helper_block { HelperEnded result.end → HelperBlock host guest.now pc limit (take result.length output.new) result.count }
+    ensures rust_block { result.refusal ≡ 0 → ZbbFree guest.now pc result.count 0 → RustBlock host guest.now pc limit (take result.length output.new) result.count }
+    ensures size { Size host limit (length output.old) result.refusal result.length }
 {
     translator::translate(guest, pc, limit, host, output)
 }

@@ -17,11 +17,8 @@ use Rattle.a64_emitter.proofs.Emission.{length-bytes}
 use Rattle.emit_native.specs.declared.Host.{Host}
 use Rattle.emit_native.specs.Calls.{product}
 use Rattle.emit_native.proofs.Size.{by}
-use types.Run.{OneOf, miss}
-use denote.Enum.Declared.{tag_of}
 use Rattle.jit_arm64.specs.declared.block.Walked.{Walked}
 use Rattle.jit_arm64.specs.declared.block.Stop.{Stop}
-use Rattle.jit_arm64.specs.contracts.block.Stop as Stops
 use Rattle.jit_arm64.specs.Block.{fetch, is_missing, block_of, compile_native_block}
 use Rattle.jit_arm64.specs.Fence.{fence, limit_at}
 use Rattle.jit_arm64.specs.Parts.{BlockOf, fence_walk, is_fenced, missed}
@@ -146,13 +143,13 @@ unfolding end_kind is_fenced
 is_helper none e h q = rw h refl
 is_helper (some n) e h q = absurd (true≢false (sym q ∙ e))
 
-pub is_plain : (f : Option ℕ) (why : Stop) {b : Bool} → b ≡ false → OneOf (0 ∷ 1 ∷ 3 ∷ 4 ∷ []) (tag_of Stops.the_type why) → b ≡ is_fenced f → EndKind.Plain ≡ end_kind f why
+pub is_plain : (f : Option ℕ) (why : Stop) {b : Bool} → b ≡ false → (why ≡ Stop.Helper → ⊥) → b ≡ is_fenced f → EndKind.Plain ≡ end_kind f why
 unfolding end_kind is_fenced
 is_plain none Stop.Limit e o q = refl
 is_plain none Stop.Ended e o q = refl
 is_plain none Stop.Uncovered e o q = refl
 is_plain none Stop.NotFetched e o q = refl
-is_plain none Stop.Helper e o q = absurd (miss (0 ∷ 1 ∷ 3 ∷ 4 ∷ []) 2 tt o)
+is_plain none Stop.Helper e o q = absurd (o refl)
 is_plain (some n) why e o q = absurd (true≢false (sym q ∙ e))
 
 -- ---- why there is no block
@@ -161,13 +158,13 @@ pub no_halfword : {why : Stop} → why ≡ Stop.NotFetched → missed why ≡ tr
 unfolding missed
 no_halfword e = rw e refl
 
-pub other-stop : (why : Stop) → OneOf (0 ∷ 1 ∷ 2 ∷ 3 ∷ []) (tag_of Stops.the_type why) → missed why ≡ false
+pub other-stop : (why : Stop) → (why ≡ Stop.NotFetched → ⊥) → missed why ≡ false
 unfolding missed
 other-stop Stop.Limit o = refl
 other-stop Stop.Ended o = refl
 other-stop Stop.Helper o = refl
 other-stop Stop.Uncovered o = refl
-other-stop Stop.NotFetched o = absurd (miss (0 ∷ 1 ∷ 2 ∷ 3 ∷ []) 4 tt o)
+other-stop Stop.NotFetched o = absurd (o refl)
 
 -- ---- the output, of which the first k bytes were lent
 

@@ -7,8 +7,7 @@ use Rattle.le.specs.Le.{store, all_bytes}
 use Rattle.le.specs.Parts.{over}
 use Rattle.le.proofs.Lists.{over_more, over-all}
 use borrow.Author.Rules.{rules}
-use Rattle.state_bytes.proofs.a64_state.to_bytes.Statement.{statement}
-use Rattle.state_bytes.proofs.a64_state.to_bytes.Tie as tie
+use Rattle.state_bytes.proofs.a64_state.to_bytes.Goals as goal
 
 -- two numbers after those that stand at the front, up to the end
 two_more : (vs m : List ℕ) (v w i : ℕ) → i ≡ 8 * length vs → length m ≡ i + 16
@@ -19,25 +18,9 @@ two_more vs m v w i h l =
     let a : length m ≡ 8 * length (vs ++ (v ∷ w ∷ [])) = rw (length-append vs (v ∷ w ∷ [])) (omega arith) in
     rw (over_more 8 vs m v i h, over_more 8 (vs ++ (v ∷ [])) m w (i + 8) n, e) (over-all 8 (vs ++ (v ∷ w ∷ [])) m a)
 
-write64-requires : tie.Need-write64-requires
-write64-requires c κs = let l : length c.before.before.before.before.before.args.s.x ≡ 31 = search rules in omega arith
-
-returns : tie.Need-returns
-returns c =
-    let a = c.before.before.before.before.before.before.before.before.before.before.before.before.before.before.before.before.before.args in
+pub returns : goal.returns
+returns c = let a = c.args in
     let l : length a.s.x ≡ 31 = search rules in
     rw
-    (c.before.before.store642.ensures, c.before.before.before.nzcv_of.ensures, c.before.before.before.before.before.before.before.store64.ensures, c.before.before.before.before.before.before.before.before.before.before.before.write64.ensures)
+    (c.store64-2.ensures, c.nzcv_of.ensures, c.store64.ensures, c.write64.ensures)
     (two_more a.s.x a.b.now _ _ 248 (omega arith) (omega arith))
-
-pub to_bytes_spec : {M : Type 1} → statement M
-to_bytes_spec =
-    tie.close
-    (tie.spec
-    (λ c. search rules)
-    write64-requires
-    (λ c κs. search rules)
-    (λ c κs. search rules)
-    (λ c κs. search rules)
-    (λ c. search rules)
-    returns)
