@@ -18,7 +18,11 @@ fn main() {
     };
     let root = PathBuf::from(env::var("CARGO_MANIFEST_DIR").unwrap()).join("../..");
     let library = match env::var_os("HILOFANUR_LIB") {
-        Some(path) => PathBuf::from(path),
+        Some(path) => {
+            let path = PathBuf::from(path);
+            println!("cargo:rerun-if-changed={}", path.display());
+            path
+        }
         None => {
             for path in sources(&root) {
                 println!("cargo:rerun-if-changed={}", path.display());
@@ -27,7 +31,6 @@ fn main() {
             root.join(archive)
         }
     };
-    println!("cargo:rerun-if-changed={}", library.display());
     let folder = PathBuf::from(env::var("OUT_DIR").unwrap());
     let copy = folder.join("libhilofanur.a");
     if let Err(error) = fs::copy(&library, &copy) {
