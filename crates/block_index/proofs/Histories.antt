@@ -15,7 +15,7 @@ use Rattle.rules.specs.Refusals as Refusals
 use Rattle.block_log.specs.declared.Entry.{Entry}
 use Rattle.block_log.specs.Log.{index_bytes, bucket, cell, used, emptied, walk}
 use Rattle.block_log.proofs.Laws.{bucket-lt}
-use Rattle.block_log.proofs.Tests.{by_test, by_eqb, by_ltb}
+use Rattle.block_log.proofs.Tests.{by_test, by_ltb}
 use Rattle.block_log.proofs.Walks.{walk_up}
 use Rattle.block_index.specs.declared.Placed.{Placed}
 use Rattle.block_index.specs.declared.Found.{Found}

@@ -187,18 +187,19 @@ pub extern "C" fn hilofanur_rv64_run(
     let why = answer.refusal;
     let refusal = rv64_run::run::number(why);
     let after = answer.hart;
+    let next_pc = after.pc;
     if refusal != 0 {
         return Rv64RunAnswer {
             refusal: refusal,
             count: answer.count,
-            next_pc: after.pc,
+            next_pc: next_pc,
         };
     }
     rv64_hart::to_bytes(after, registers);
     Rv64RunAnswer {
         refusal: refusal,
         count: answer.count,
-        next_pc: after.pc,
+        next_pc: next_pc,
     }
 }
 

@@ -1,5 +1,5 @@
 -- What holds of the loop after n instructions: what is left of the walk ends as the whole does. Assumes nothing.
-use Rattle.std.proofs.Common.{◌≡◌, ℕ, suc, ◌+◌, ◌-◌, ◌*◌, ◌^◌, ◌<◌, ◌≤◌, min, Bool, true, false, cond, List, [], ◌++◌, length, take, sym, refl, ap, ◌∙◌, true≢false, append_assoc, append-nil, arith}
+use Rattle.std.proofs.Common.{◌≡◌, ℕ, suc, ◌+◌, ◌-◌, ◌^◌, ◌<◌, ◌≤◌, min, Bool, true, false, cond, List, [], ◌++◌, length, take, sym, refl, ap, ◌∙◌, true≢false, append_assoc, append-nil, arith}
 use mathlib.Core.Option.{none, some}
 use mathlib.Core.List.{flatten}
 use Rattle.rules.specs.Limits.{inline_words, instr_words, end_words, max_instrs}

@@ -1,7 +1,6 @@
 -- A Zbb word is no instruction of the base ISA, which is therefore asked first. Assumes nothing.
-use Rattle.std.proofs.Common.{◌≡◌, ℕ, ◌^◌, ◌<◌, List, [], ◌∷◌, refl, ap}
+use Rattle.std.proofs.Common.{◌≡◌, ℕ, ◌^◌, ◌<◌, List, refl, ap}
 use native.Mathlib.Omega as N
-use types.Run.{OneOf, miss}
 use denote.Enum.Declared.{tag_of}
 use Rattle.isa.specs.declared.zbb.Found.{Found}
 use Rattle.isa.specs.Classes.{class_of}
@@ -13,7 +12,6 @@ use Rattle.rv64.specs.declared.decode.Instr.{Instr}
 use Rattle.rv64.specs.declared.execute.Effect.{Effect}
 use Rattle.rv64.specs.declared.execute.Flow.{Flow}
 use Rattle.isa.specs.contracts.zbb.Found as Founds
-use Rattle.rv64.specs.contracts.execute.Effect as Effects
 use Rattle.rv64.specs.Decode as D
 use Rattle.rv64.specs.Execute.{Step, exec, read}
 use Rattle.rv64.specs.Parts as S

@@ -1,6 +1,5 @@
 -- Where none of the instructions that the product counts is Zbb's, its walk is the Rust's. Assumes nothing.
 use mathlib.Core.Path.{◌≡◌, refl, sym, ap, ◌∙◌}
-use mathlib.Core.Bool.{Bool, true, false, cond}
 use mathlib.Core.List.{List}
 use mathlib.Core.Option.{Option, none, some}
 use Prim.Native.Nat.{ℕ, zero, suc, ◌+◌, ◌-◌, ◌≤◌, min}
@@ -12,7 +11,7 @@ use Rattle.emit_native.specs.declared.Host.{Host}
 use Rattle.emit_native.specs.Calls.{Dialect, rust, product, store_rd, Emission}
 use Rattle.emit_native.proofs.Size.{by}
 use Rattle.zbb.specs.Emission.{emission}
-use Rattle.jit_arm64.specs.Block.{Walk, in_front, fetch, size_of, emit_native, zbb_of, zbb_first, emit_inline, emit_term_helper, helped, step, instr_walk, walk, whole_walk}
+use Rattle.jit_arm64.specs.Block.{Walk, in_front, fetch, size_of, emit_native, zbb_of, zbb_first, emit_inline, emit_term_helper, step, instr_walk, walk, whole_walk}
 use Rattle.jit_arm64.specs.Fence.{is_fence_i, fence_or, to_fence, fence, limit_at}
 use Rattle.jit_arm64.specs.Parts.{fence_walk}
 use Rattle.jit_arm64.proofs.Refusals.{walk-count}

@@ -1,7 +1,6 @@
 -- How long a block may be. Assumes nothing.
-use mathlib.Core.Path.{◌≡◌, refl, ap, ◌∙◌}
-use mathlib.Core.Bool.{cond}
-use mathlib.Core.List.{List, [], ◌++◌, flatten}
+use mathlib.Core.Path.{◌≡◌, refl}
+use mathlib.Core.List.{List, ◌++◌, flatten}
 use mathlib.Core.Option.{Option, none, some}
 use Prim.Native.Nat.{ℕ, zero, suc, ◌+◌, ◌*◌, ◌≤◌, ◌<◌, min}
 use native.Mathlib.Omega.{arith}
@@ -10,15 +9,14 @@ use Rattle.rules.specs.Limits.{max_instrs, inline_words, end_words, instr_words,
 use Rattle.word.specs.Word.{add}
 use Rattle.emit_native.specs.declared.EmitFlow.{EmitFlow}
 use Rattle.emit_native.specs.declared.Host.{Host}
-use Rattle.emit_native.specs.Calls.{Call, product, words_in, words, Emission}
+use Rattle.emit_native.specs.Calls.{Call, product, words, Emission}
 use Rattle.emit_native.proofs.Size.{size, size-append, by}
-use Rattle.a64_emitter.specs.Emitter.{bytes}
 use Rattle.a64_emitter.proofs.Emission.{length-bytes}
 use Rattle.jit_arm64.specs.declared.block.Stop.{Stop}
-use Rattle.jit_arm64.specs.Block.{Walk, in_front, fetch, size_of, emit_inline, emit_term_helper, helped, step, instr_walk, walk, end_calls, block_calls, block_of}
+use Rattle.jit_arm64.specs.Block.{Walk, fetch, size_of, emit_inline, emit_term_helper, helped, step, instr_walk, walk, end_calls, block_calls, block_of}
 use Rattle.jit_arm64.specs.Fence.{is_fence_i}
 use Rattle.jit_arm64.specs.Parts.{fence_walk, end_room}
-use Rattle.jit_arm64.proofs.Emitting.{Apart, words_size, inline-size, inline-apart, helped-size}
+use Rattle.jit_arm64.proofs.Emitting.{words_size, inline-size, inline-apart, helped-size}
 use Rattle.jit_arm64.proofs.Ending.{end-size}
 use Rattle.translation.proofs.Fences.{behind, cut, whole_cut}
 use Rattle.translation.proofs.Whole.{walk_most}

@@ -9,7 +9,6 @@ use lib.Bits.{bit_and, and_mask, and_le_r, or_lt}
 use lib.Dec.{leb, ltb}
 use Rattle.word.specs.Word.{add, sub, mul, and64, or64, shl, shr, slt, complement}
 use Rattle.word.specs.Counts.{clz, ctz, cpop}
-use Rattle.word.specs.Bytes.{ror, rol, combined}
 use Rattle.word.proofs.Extend.{by_shifts}
 use Rattle.word.proofs.Counting.{clz-le}
 use Rattle.word.proofs.Ones.{mask_sequence}

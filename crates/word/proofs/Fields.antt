@@ -1,6 +1,6 @@
 -- Words as rows of fields: masks that keep the low half of each field, the sums of neighbouring fields, and the ones
 -- in each field. After Warren, Hacker's Delight, 5-1; the laws for any width. Assumes nothing.
-use Rattle.std.proofs.Common.{◌≡◌, ℕ, zero, suc, ◌+◌, ◌-◌, ◌*◌, ◌/◌, ◌%◌, ◌^◌, ◌<◌, ◌≤◌, sym, refl, ap, ◌∙◌, ap₂, lt_of_lt_of_le, le-add_right, lt_of_le_of_lt, mod-lt, lt-suc_self, add-mul, arith, pow_pos, pow_mono, pow-add, shr-shr}
+use Rattle.std.proofs.Common.{◌≡◌, ℕ, zero, suc, ◌+◌, ◌-◌, ◌*◌, ◌/◌, ◌%◌, ◌^◌, ◌<◌, ◌≤◌, sym, refl, ap, ◌∙◌, ap₂, lt_of_lt_of_le, le-add_right, lt_of_le_of_lt, mod-lt, lt-suc_self, add-mul, arith, pow_pos, pow_mono, shr-shr}
 use native.Mathlib.Nat.{mod-one}
 use lib.Arith.{digits_div, digits_mod}
 use lib.Pow.{pow-lt, split, mod-mod-pow, mod-pow-add, ones_lt}

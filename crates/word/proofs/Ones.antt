@@ -1,10 +1,10 @@
 -- The mask sequence counts the ones. Assumes nothing.
-use Rattle.std.proofs.Common.{◌≡◌, ℕ, zero, suc, ◌+◌, ◌-◌, ◌*◌, ◌/◌, ◌%◌, ◌^◌, ◌<◌, ◌≤◌, sym, refl, ap, ◌∙◌, ap₂, mod-lt, mod-eq_of_lt, zero-add, arith, shr-shr}
+use Rattle.std.proofs.Common.{◌≡◌, ℕ, zero, suc, ◌+◌, ◌*◌, ◌/◌, ◌%◌, ◌^◌, ◌<◌, ◌≤◌, sym, ap, ◌∙◌, mod-eq_of_lt, zero-add, arith}
 use lib.Arith.{digits_div, digits_mod}
-use lib.Pow.{split, mod-pow-add}
+use lib.Pow.{split}
 use lib.Bits.{bit_and, and_le_r}
 use lib.Count.{ones, ones_cat, ones-le}
-use Rattle.word.specs.Word.{wrap, add, sub, mul, and64, shr, shl}
+use Rattle.word.specs.Word.{add, sub, mul, and64, shr}
 use Rattle.word.specs.Counts.{cpop}
 use Rattle.word.proofs.Counting.{cpop-ones}
 use Rattle.word.proofs.Fields.{evens, twice, counts, counts_bits, first, both, last}

@@ -1,7 +1,6 @@
 -- What the sequence of ORC.B computes: for each byte, whether a carry out of its low seven bits or its high bit says
 -- that it is not 0. Assumes nothing.
-use Rattle.std.proofs.Common.{◌≡◌, ℕ, zero, suc, ◌+◌, ◌-◌, ◌*◌, ◌/◌, ◌%◌, ◌^◌, ◌<◌, ◌≤◌, Bool, true, false, cond, eqb, sym, refl, ap, ◌∙◌, ap₂, mod-eq_of_lt, pow-suc, arith, eq-eqb, ne_eqb, eqb-true}
-use lib.Arith.{digits_div, digits_mod}
+use Rattle.std.proofs.Common.{◌≡◌, ℕ, zero, suc, ◌+◌, ◌*◌, ◌/◌, ◌%◌, ◌^◌, ◌<◌, ◌≤◌, Bool, true, false, cond, eqb, sym, refl, ap, ◌∙◌, ap₂, mod-eq_of_lt, pow-suc, arith, eq-eqb, ne_eqb, eqb-true}
 use lib.Pow.{split}
 use lib.Bits.{bit_and, bit_or, and_block, or_block, and_mask, and_zero_r, or_shr, or_lt, and_le_r}
 use borrow.Author.Tests.{eqb-false}

@@ -1,8 +1,8 @@
 -- ROL as a rotation the other way. Assumes nothing.
-use Rattle.std.proofs.Common.{◌≡◌, ℕ, zero, suc, ◌+◌, ◌-◌, ◌*◌, ◌/◌, ◌%◌, ◌^◌, ◌<◌, ◌≤◌, ◌⊎◌, sym, refl, ap, ◌∙◌, ap₂, inl, inr, div-one, arith}
+use Rattle.std.proofs.Common.{◌≡◌, ℕ, zero, suc, ◌-◌, ◌*◌, ◌/◌, ◌%◌, ◌^◌, ◌<◌, sym, ap, ◌∙◌, div-one, arith}
 use native.Mathlib.Nat.{mul-mod_left}
-use lib.Bits.{bit_or, or_comm, or_zero_r}
-use Rattle.word.specs.Word.{wrap, sub, or64, shl, shr}
+use lib.Bits.{or_comm, or_zero_r}
+use Rattle.word.specs.Word.{wrap, sub}
 use Rattle.word.specs.Bytes.{ror, rol}
 
 whole : (x : ℕ) → x < 2 ^ 64 → x * 1 % 2 ^ 64 ≡ x

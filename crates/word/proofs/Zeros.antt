@@ -1,11 +1,9 @@
 -- What the sequences of CLZW, CTZ, CTZW and CPOPW compute. Assumes nothing.
-use Rattle.std.proofs.Common.{◌≡◌, ℕ, zero, suc, ◌+◌, ◌-◌, ◌*◌, ◌/◌, ◌%◌, ◌^◌, ◌<◌, ◌≤◌, min, max, Bool, true, false, cond, eqb, ◌⊎◌, sym, refl, ap, ◌∙◌, ap₂, inl, inr, lt_of_lt_of_le, add-zero, mod-lt, mod-eq_of_lt, pow-suc, arith, pow_pos, pow_mono, eq-eqb, ne_eqb, eqb-true}
-use lib.Pow.{suc_ones}
+use Rattle.std.proofs.Common.{◌≡◌, ℕ, zero, suc, ◌+◌, ◌-◌, ◌*◌, ◌/◌, ◌%◌, ◌^◌, ◌<◌, ◌≤◌, min, Bool, true, false, cond, eqb, ◌⊎◌, sym, refl, ap, ◌∙◌, ap₂, inl, inr, add-zero, pow-suc, arith, pow_pos, pow_mono}
 use lib.Bits.{bit_and, bit_or, and_step, and_mask, and_zero_r, or_mod, or_shr, or_zero_r}
 use lib.Count.{count_leading_zeros, leading_length, leading_unique, ones, ones_cat}
-use borrow.Author.Tests.{eqb-false}
-use Rattle.word.specs.Word.{wrap, sub, shl, and64, or64, complement}
-use Rattle.word.specs.Counts.{bit_at, clz, ctz, cpop}
+use Rattle.word.specs.Word.{sub, shl, and64, or64, complement}
+use Rattle.word.specs.Counts.{clz, ctz, cpop}
 use Rattle.word.proofs.Counting.{cpop-ones, leading_is, leading_low}
 
 -- ---- CLZW: the zeros of the low word, with 32 more above it

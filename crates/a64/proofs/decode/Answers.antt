@@ -2,7 +2,6 @@ use mathlib.Core.Path.{◌∙◌}
 use borrow.Author.Tests.{ne_eqb}
 use Rattle.a64.specs.Forms.{decode}
 use Rattle.a64.proofs.Coding.{quarter, half, not_quarter, not-half}
-use borrow.Author.Rules.{rules}
 use Rattle.a64.proofs.decode.Goals as goal
 
 pub returns-in-1684 : goal.returns-in-1684

@@ -1,4 +1,3 @@
-use borrow.Author.Rules.{rules}
 use mathlib.Core.Path.{◌∙◌}
 use Rattle.a64.proofs.Coding.{form-decode}
 use Rattle.a64.proofs.decode_readable.Goals as goal

@@ -1,4 +1,3 @@
-use borrow.Author.Rules.{rules}
 use borrow.Author.Tests.{eq-eqb, ne_eqb}
 use Rattle.a64.specs.Parts.{form_of}
 use Rattle.a64.proofs.form_by_byte.Goals as goal

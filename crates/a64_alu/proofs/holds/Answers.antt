@@ -1,4 +1,3 @@
-use Rattle.std.proofs.Common.{rules}
 use Rattle.a64_alu.specs.Alu.{holds}
 use Rattle.a64_alu.proofs.holds.Goals as goal
 

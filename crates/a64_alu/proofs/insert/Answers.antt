@@ -1,4 +1,4 @@
-use Rattle.std.proofs.Common.{◌≡◌, arith, rules}
+use Rattle.std.proofs.Common.{◌≡◌, arith}
 use Rattle.a64_alu.specs.Alu.{insert}
 use Rattle.a64_alu.proofs.insert.Goals as goal
 

@@ -1,5 +1,4 @@
 use Rattle.a64_alu.specs.Alu.{op1_value}
-use Rattle.std.proofs.Common.{rules}
 use Rattle.a64_alu.proofs.op1_value.Goals as goal
 
 pub returns-in-Rev : goal.returns-in-Rev

@@ -1,12 +1,11 @@
 use native.Mathlib.Omega.{arith}
 use borrow.Author.Rules.{rules}
-use Prim.Native.Nat.{◌≤◌, ◌-◌, min}
-use mathlib.Core.Path.{◌≡◌, refl, sym, ◌∙◌}
+use mathlib.Core.Path.{◌≡◌, refl, sym}
 use native.Mathlib.Numerals.{add-one}
 use lib.ListN.{length, take, length-set}
 use Rattle.rules.specs.Limits.{instr_words}
 use Rattle.a64_emitter.proofs.Emission.{emitted-none, pasted}
-use lib.Seq.{paste, paste-zero, paste-suc, length-paste}
+use lib.Seq.{paste-suc}
 use Rattle.a64_emitter.proofs.append_at.Goals as goal
 
 pub returns-then-len-eq0 : goal.returns-then-len-eq0

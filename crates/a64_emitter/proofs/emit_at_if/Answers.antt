@@ -1,4 +1,3 @@
-use borrow.Author.Rules.{rules}
 use mathlib.Core.Path.{refl, sym}
 use Rattle.a64_emitter.specs.Parts.{emitted_if}
 use Rattle.a64_emitter.proofs.Emission.{emitted-none}

@@ -1,7 +1,6 @@
-use borrow.Author.Rules.{rules}
 use native.Mathlib.Omega.{arith}
 use Prim.Native.Nat.{◌+◌, ◌≤◌}
-use mathlib.Core.Path.{refl, sym, ◌∙◌}
+use mathlib.Core.Path.{refl, sym}
 use lib.ListN.{length, take, length-take}
 use Rattle.a64_emitter.specs.Writers.{mov_imm64}
 use Rattle.a64_emitter.proofs.Emission.{kept, constant_one, constant_length}

@@ -1,4 +1,3 @@
-use borrow.Author.Rules.{rules}
 use mathlib.Core.Path.{refl, sym}
 use Rattle.a64_emitter.proofs.Emission.{movk-none, movk-some, emitted-none}
 use Rattle.a64_emitter.proofs.upper_at.Goals as goal

@@ -2,7 +2,7 @@ use Prim.Native.Nat.{◌+◌, ◌/◌, suc}
 use mathlib.Core.Path.{◌≡◌, ◌∙◌}
 use mathlib.Core.List.{append_assoc}
 use native.Mathlib.Numerals.{add-one}
-use lib.ListN.{take, drop, length-set}
+use lib.ListN.{take, drop}
 use lib.Seq.{sets-eq}
 use Rattle.le.specs.Le.{bytes, store}
 use native.Mathlib.Omega.{arith}

@@ -1,12 +1,7 @@
-use native.Mathlib.Omega.{arith}
-use borrow.Author.Rules.{rules}
 use Prim.Native.Nat.{◌≤◌, ◌-◌}
-use mathlib.Core.Path.{◌≡◌, refl, ◌∙◌}
+use mathlib.Core.Path.{◌≡◌}
 use lib.ListN.{length, take}
-use Rattle.le.specs.Le.{all_bytes}
 use Rattle.le.specs.Parts.{over}
-use Rattle.le.proofs.Lists.{write_more}
-use Rattle.a64_emitter.proofs.Emission.{all-written, none_written}
 use Rattle.a64_emitter.proofs.write_words.Given as goal
 
 abbrev pub invariant-loop-i : goal.invariant-loop-i

@@ -1,6 +1,5 @@
 use borrow.Author.Rules.{rules}
-use native.Mathlib.Omega.{arith}
-use Rattle.ascii.proofs.Lanes.{apart, masked, hex8}
+use Rattle.ascii.proofs.Lanes.{hex8}
 use Rattle.ascii.proofs.hex_digits.Goals as goal
 
 pub returns : goal.returns

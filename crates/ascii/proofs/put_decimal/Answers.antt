@@ -1,4 +1,3 @@
-use borrow.Author.Rules.{rules}
 use native.Mathlib.Omega.{arith}
 use Rattle.ascii.proofs.Writing.{then}
 use Rattle.ascii.proofs.Numbers.{pair_more, pairs_more, pair_more_length, pairs_more_length}

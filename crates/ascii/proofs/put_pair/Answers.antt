@@ -1,4 +1,3 @@
-use borrow.Author.Rules.{rules}
 use Rattle.ascii.proofs.Writing.{then}
 use Rattle.ascii.proofs.put_pair.Goals as goal
 

@@ -1,9 +1,6 @@
-use borrow.Author.Rules.{rules}
-use Prim.Native.Nat.{◌+◌, ◌-◌, ◌≤◌}
+use Prim.Native.Nat.{◌+◌, ◌-◌}
 use mathlib.Core.Path.{◌≡◌, sym, ◌∙◌}
-use lib.ListN.{length}
 use Rattle.block_index.proofs.Steps.{reinserted_step}
-use Rattle.block_log.specs.Log.{index_bytes}
 use Rattle.block_index.specs.Index.{reinserted}
 use native.Mathlib.Omega.{arith}
 use Rattle.block_index.proofs.compact.Goals as goal

@@ -1,11 +1,8 @@
-use borrow.Author.Rules.{rules}
 use Prim.Native.Nat.{◌+◌, ◌-◌, ◌≤◌}
-use mathlib.Core.Path.{◌≡◌, sym, ◌∙◌}
+use mathlib.Core.Path.{◌≡◌}
 use lib.ListN.{length}
-use Rattle.block_index.proofs.Steps.{reinserted_step}
 use Rattle.block_log.specs.Log.{index_bytes}
 use Rattle.block_index.specs.Index.{reinserted}
-use native.Mathlib.Omega.{arith}
 use Rattle.block_index.proofs.compact.Given as goal
 
 -- the reinserting from here ends as the whole does

@@ -1,4 +1,3 @@
-use borrow.Author.Rules.{rules}
 use Rattle.block_index.proofs.Steps.{found_none, found_some}
 use Rattle.block_index.proofs.Histories.{looks}
 use Rattle.block_index.proofs.lookup.Goals as goal

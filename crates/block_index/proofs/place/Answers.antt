@@ -1,6 +1,5 @@
-use borrow.Author.Rules.{rules}
 use mathlib.Core.Path.{sym, ◌∙◌}
-use Rattle.block_index.proofs.Steps.{accepted, place-refused, place-accepted}
+use Rattle.block_index.proofs.Steps.{place-refused, place-accepted}
 use Rattle.block_index.proofs.Histories.{places}
 use native.Mathlib.Omega.{arith}
 use Rattle.block_index.proofs.place.Goals as goal

@@ -1,9 +1,6 @@
-use borrow.Author.Rules.{rules}
-use Prim.Native.Nat.{◌<◌}
-use mathlib.Core.Path.{◌≡◌, sym, ◌∙◌}
+use mathlib.Core.Path.{sym, ◌∙◌}
 use Rattle.block_log.proofs.Walks.{walk_start, walk_none, walk_hit, walk-on, walk_end}
-use Rattle.block_log.specs.Log as L
-use Rattle.block_index.specs.Index.{block_at, slot_of}
+use Rattle.block_index.specs.Index.{block_at}
 use native.Mathlib.Omega.{arith}
 use Rattle.block_index.proofs.slot_of.Goals as goal
 

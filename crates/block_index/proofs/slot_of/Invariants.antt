@@ -1,10 +1,7 @@
-use borrow.Author.Rules.{rules}
 use Prim.Native.Nat.{◌<◌}
-use mathlib.Core.Path.{◌≡◌, sym, ◌∙◌}
-use Rattle.block_log.proofs.Walks.{walk_start, walk_none, walk_hit, walk-on, walk_end}
+use mathlib.Core.Path.{◌≡◌}
 use Rattle.block_log.specs.Log as L
 use Rattle.block_index.specs.Index.{block_at, slot_of}
-use native.Mathlib.Omega.{arith}
 use Rattle.block_index.proofs.slot_of.Given as goal
 
 -- the walk from here ends as the whole does

@@ -1,9 +1,5 @@
-use borrow.Author.Rules.{rules}
-use Prim.Native.Nat.{◌<◌}
 use mathlib.Core.Path.{◌≡◌, sym, ◌∙◌}
-use lib.ListN.{length}
 use Rattle.block_index.proofs.Steps.{swept_step, room_left_step}
-use Rattle.block_log.specs.Log.{index_bytes, slots, used}
 use Rattle.block_index.specs.Index.{swept, room_left}
 use native.Mathlib.Omega.{arith}
 use Rattle.block_index.proofs.sweep.Goals as goal

@@ -1,4 +1,3 @@
-use borrow.Author.Rules.{rules}
 use Rattle.fnv1a.proofs.Laws.{more_append}
 use Rattle.block_log.specs.Log.{bucket}
 use native.Mathlib.Omega.{arith}

@@ -1,4 +1,3 @@
-use borrow.Author.Rules.{rules}
 use Rattle.le.proofs.Laws.{load_byte}
 use mathlib.Core.Path.{sym}
 use native.Mathlib.Omega.{arith}

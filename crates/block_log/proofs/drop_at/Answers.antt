@@ -1,4 +1,3 @@
-use borrow.Author.Rules.{rules}
 use Rattle.block_log.specs.Log.{dropped}
 use Rattle.block_log.proofs.drop_at.Goals as goal
 

@@ -1,10 +1,8 @@
 use borrow.Author.Rules.{rules}
-use Prim.Native.Nat.{◌≤◌, ◌-◌}
+use Prim.Native.Nat.{◌-◌}
 use mathlib.Core.Path.{◌≡◌, refl}
-use mathlib.Core.List.{◌++◌}
-use lib.ListN.{drop}
 use Rattle.le.specs.Le.{bytes}
-use Rattle.block_log.proofs.Emptying.{zero_more, length_zeros}
+use Rattle.block_log.proofs.Emptying.{zero_more}
 use native.Mathlib.Omega.{arith}
 use Rattle.block_log.proofs.empty.Goals as goal
 

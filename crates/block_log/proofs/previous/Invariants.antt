@@ -1,13 +1,9 @@
-use borrow.Author.Rules.{rules}
-use borrow.Author.Tests.{eq-eqb, ne_eqb}
 use Prim.Native.Nat.{ℕ, ◌<◌}
-use mathlib.Core.Path.{◌≡◌, sym, ◌∙◌}
+use mathlib.Core.Path.{◌≡◌}
 use mathlib.Core.Bool.{Bool}
 use mathlib.Core.List.{List}
 use lib.Dec.{eqb}
-use native.Mathlib.Omega.{arith}
 use Rattle.block_log.specs.Log as L
-use Rattle.block_log.proofs.Walks.{walk_start, walk_none, walk_hit, walk-on, walk_end}
 use Rattle.block_log.proofs.previous.Given as goal
 
 abbrev pub before_p : List ℕ → ℕ → ℕ → Bool

@@ -1,4 +1,3 @@
-use borrow.Author.Rules.{rules}
 use Rattle.block_log.specs.Log.{pushed}
 use Rattle.block_log.proofs.push.Goals as goal
 

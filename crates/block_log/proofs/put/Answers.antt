@@ -1,4 +1,3 @@
-use borrow.Author.Rules.{rules}
 use Rattle.block_log.specs.Log.{put}
 use Rattle.block_log.proofs.put.Goals as goal
 

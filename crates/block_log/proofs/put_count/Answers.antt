@@ -1,4 +1,3 @@
-use borrow.Author.Rules.{rules}
 use Rattle.le.proofs.Laws.{store_byte}
 use mathlib.Core.Path.{◌≡◌}
 use Prim.Native.Nat.{◌+◌, ◌%◌}

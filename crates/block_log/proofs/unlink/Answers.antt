@@ -1,4 +1,3 @@
-use borrow.Author.Rules.{rules}
 use mathlib.Core.Path.{sym, ◌∙◌}
 use Rattle.block_log.proofs.Laws.{unlinked_head, unlinked_later}
 use Rattle.block_log.proofs.unlink.Goals as goal

@@ -1,12 +1,6 @@
-use lib.ListN.{length, take, drop}
-use native.Mathlib.Omega.{arith}
-use borrow.Author.Rules.{rules}
-use Prim.Native.Nat.{ℕ, ◌+◌, ◌≤◌, ◌-◌}
+use Prim.Native.Nat.{◌≤◌, ◌-◌}
 use mathlib.Core.Path.{◌≡◌}
-use mathlib.Core.List.{List, append_assoc}
-use native.Mathlib.Numerals.{add-one}
-use lib.Seq.{paste, paste-zero, paste-suc, length-paste, take-length}
-use Rattle.le.specs.Le.{splice}
+use lib.Seq.{paste}
 use Rattle.code_cache.proofs.copy.Given as goal
 
 abbrev pub invariant-loop-i : goal.invariant-loop-i

@@ -1,6 +1,5 @@
 use native.Mathlib.Omega.{arith}
 use Rattle.code_cache.proofs.Placing.{beyond, no_room, room}
-use borrow.Author.Rules.{rules}
 use Rattle.code_cache.proofs.place.Goals as goal
 
 pub returns-then-size-used : goal.returns-then-size-used

@@ -3,7 +3,6 @@ use native.Mathlib.Omega.{arith}
 use lib.ListN.{length}
 use borrow.Author.Tests.{le-leb, lt-leb}
 use Rattle.fetch_window.specs.Parts.{halfword_at}
-use borrow.Author.Rules.{rules}
 use Rattle.fetch_window.proofs.halfword_at.Goals as goal
 
 pub returns-then-n-lt2 : goal.returns-then-n-lt2

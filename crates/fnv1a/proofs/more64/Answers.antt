@@ -1,4 +1,3 @@
-use borrow.Author.Rules.{rules}
 use Rattle.le.specs.Le.{bytes}
 use Rattle.fnv1a.specs.Fnv1a as F
 use Rattle.fnv1a.proofs.more64.Goals as goal

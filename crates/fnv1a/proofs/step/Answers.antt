@@ -1,4 +1,3 @@
-use borrow.Author.Rules.{rules}
 use Rattle.fnv1a.specs.Fnv1a as F
 use Rattle.fnv1a.proofs.step.Goals as goal
 

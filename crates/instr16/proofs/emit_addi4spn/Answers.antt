@@ -1,4 +1,4 @@
-use Rattle.std.proofs.Common.{refl, rules, eq-eqb, ne_eqb}
+use Rattle.std.proofs.Common.{refl, eq-eqb, ne_eqb}
 use Rattle.instr16.specs.Instr16.{addi4spn}
 use Rattle.isa.proofs.Decoding.{imm_addi4spn_is}
 use Rattle.instr16.proofs.emit_addi4spn.Goals as goal

@@ -1,4 +1,4 @@
-use Rattle.std.proofs.Common.{refl, rules, eq-eqb, ne_eqb}
+use Rattle.std.proofs.Common.{refl, eq-eqb, ne_eqb}
 use Rattle.instr16.specs.Instr16.{c_addiw}
 use Rattle.isa.proofs.Decoding.{imm_ci_is}
 use Rattle.instr16.proofs.emit_c_addiw.Goals as goal

@@ -1,4 +1,4 @@
-use Rattle.std.proofs.Common.{refl, rules, ne_eqb}
+use Rattle.std.proofs.Common.{refl, ne_eqb}
 use Rattle.instr16.specs.Instr16.{c_alu}
 use Rattle.instr16.proofs.emit_c_alu.Goals as goal
 

@@ -1,6 +1,5 @@
 use Rattle.instr16.specs.Instr16.{c_branch, c_branch_on}
 use Rattle.isa.proofs.Decoding.{imm_cb_is}
-use Rattle.std.proofs.Common.{rules}
 use Rattle.instr16.proofs.emit_c_branch.Goals as goal
 
 pub returns : goal.returns

@@ -1,4 +1,4 @@
-use Rattle.std.proofs.Common.{refl, ◌∙◌, rules, ne_eqb}
+use Rattle.std.proofs.Common.{◌∙◌}
 use Rattle.instr16.specs.Instr16.{c_group}
 use Rattle.instr16.proofs.emit_c_group.Goals as goal
 

@@ -1,6 +1,5 @@
 use Rattle.instr16.specs.Instr16.{c_j}
 use Rattle.isa.proofs.Decoding.{imm_cj_is}
-use Rattle.std.proofs.Common.{rules}
 use Rattle.instr16.proofs.emit_c_j.Goals as goal
 
 pub returns : goal.returns

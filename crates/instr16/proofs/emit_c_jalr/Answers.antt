@@ -1,5 +1,4 @@
 use Rattle.instr16.specs.Instr16.{c_jalr}
-use Rattle.std.proofs.Common.{rules}
 use Rattle.instr16.proofs.emit_c_jalr.Goals as goal
 
 pub returns : goal.returns

@@ -1,6 +1,5 @@
 use Rattle.instr16.specs.Instr16.{c_li}
 use Rattle.isa.proofs.Decoding.{imm_ci_is}
-use Rattle.std.proofs.Common.{rules}
 use Rattle.instr16.proofs.emit_c_li.Goals as goal
 
 pub returns : goal.returns

@@ -1,4 +1,4 @@
-use Rattle.std.proofs.Common.{rules, eq-eqb, ne_eqb}
+use Rattle.std.proofs.Common.{eq-eqb, ne_eqb}
 use Rattle.instr16.specs.Instr16.{c_addi16sp_lui}
 use Rattle.instr16.proofs.emit_c_sp_or_lui.Goals as goal
 

@@ -1,6 +1,5 @@
 use Rattle.instr16.specs.Instr16.{c_srai}
 use Rattle.isa.proofs.Decoding.{shamt_is}
-use Rattle.std.proofs.Common.{rules}
 use Rattle.instr16.proofs.emit_c_srai.Goals as goal
 
 pub returns : goal.returns

@@ -1,4 +1,4 @@
-use Rattle.std.proofs.Common.{◌≡◌, ℕ, ◌/◌, ◌%◌, ◌<◌, ◌≤◌, cond, eqb, refl, arith, rules, eq-eqb, ne_eqb}
+use Rattle.std.proofs.Common.{◌≡◌, ℕ, ◌/◌, ◌%◌, ◌<◌, ◌≤◌, cond, eqb, refl, arith, eq-eqb, ne_eqb}
 use borrow.Author.Tests.{eqb-false}
 use Rattle.emit_native.specs.Calls.{Emission}
 use Rattle.emit_native.proofs.Size.{by}

@@ -1,6 +1,5 @@
 use Rattle.instr32.specs.Instr32.{branch_on}
 use Rattle.isa.proofs.Decoding.{imm_b_is}
-use Rattle.std.proofs.Common.{rules}
 use Rattle.instr32.proofs.emit_branch_on.Goals as goal
 
 pub returns : goal.returns

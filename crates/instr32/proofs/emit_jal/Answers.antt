@@ -2,7 +2,6 @@ use Rattle.instr32.specs.Instr32.{jal}
 use Rattle.isa.proofs.Decoding.{imm_j_is}
 use mathlib.Core.List.{map-append}
 use Rattle.a64_emitter.proofs.Emission.{emitted_all-append}
-use Rattle.std.proofs.Common.{rules}
 use Rattle.instr32.proofs.emit_jal.Goals as goal
 
 pub returns : goal.returns

@@ -1,4 +1,4 @@
-use Rattle.std.proofs.Common.{[], ◌∷◌, ◌∙◌, rules}
+use Rattle.std.proofs.Common.{[], ◌∷◌, ◌∙◌}
 use Rattle.instr32.specs.Instr32.{jalr}
 use Rattle.a64_emitter.specs.Writers.{add_x, and_x}
 use Rattle.emit_native.specs.Calls.{load, store, emit, mov_imm64, if_not_0, terminate}
@@ -7,7 +7,6 @@ use Rattle.emit_native.proofs.Chains.{first}
 use Rattle.word.specs.Word.{add}
 use Rattle.emit_native.specs.Hart.{not_1}
 use Rattle.isa.specs.Decode.{imm_i}
-use Rattle.a64_emitter.specs.Parts.{held}
 use Rattle.instr32.proofs.emit_jalr.Goals as goal
 
 pub returns : goal.returns

@@ -1,6 +1,5 @@
 use Rattle.instr32.specs.Instr32.{lui}
 use Rattle.isa.proofs.Decoding.{imm_u_is}
-use Rattle.std.proofs.Common.{rules}
 use Rattle.instr32.proofs.emit_lui.Goals as goal
 
 pub returns : goal.returns

@@ -1,4 +1,4 @@
-use Rattle.std.proofs.Common.{refl, rules, ne_eqb}
+use Rattle.std.proofs.Common.{refl, ne_eqb}
 use Rattle.instr32.specs.Instr32.{misc_mem}
 use Rattle.instr32.proofs.emit_misc_mem.Goals as goal
 

@@ -1,5 +1,5 @@
-use Rattle.std.proofs.Common.{refl, rules}
-use Rattle.instr32.proofs.Dispatch.{in_arm, in_range}
+use Rattle.std.proofs.Common.{refl}
+use Rattle.instr32.proofs.Dispatch.{in_arm}
 use Rattle.instr32.proofs.emit_native_instr.Goals as goal
 
 pub returns-in-Lui : goal.returns-in-Lui

@@ -1,7 +1,7 @@
 use Rattle.instr32.specs.Instr32.{op}
 use Rattle.emit_native.specs.Calls.{load}
 use Rattle.emit_native.proofs.Chains.{then, first}
-use Rattle.std.proofs.Common.{[], ◌∷◌, rules}
+use Rattle.std.proofs.Common.{[], ◌∷◌}
 use Rattle.instr32.proofs.emit_op.Goals as goal
 
 pub returns : goal.returns

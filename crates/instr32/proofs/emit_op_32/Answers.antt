@@ -1,7 +1,7 @@
 use Rattle.instr32.specs.Instr32.{op_32}
 use Rattle.emit_native.specs.Calls.{load}
 use Rattle.emit_native.proofs.Chains.{then, first}
-use Rattle.std.proofs.Common.{[], ◌∷◌, rules}
+use Rattle.std.proofs.Common.{[], ◌∷◌}
 use Rattle.instr32.proofs.emit_op_32.Goals as goal
 
 pub returns : goal.returns

@@ -2,7 +2,7 @@ use Rattle.instr32.specs.Instr32.{op_imm}
 use Rattle.emit_native.specs.Calls.{load}
 use Rattle.isa.proofs.Decoding.{imm_i_is}
 use Rattle.emit_native.proofs.Chains.{then, first}
-use Rattle.std.proofs.Common.{[], ◌∷◌, rules}
+use Rattle.std.proofs.Common.{[], ◌∷◌}
 use Rattle.instr32.proofs.emit_op_imm.Goals as goal
 
 pub returns : goal.returns

@@ -2,7 +2,7 @@ use Rattle.instr32.specs.Instr32.{op_imm_32}
 use Rattle.emit_native.specs.Calls.{load}
 use Rattle.isa.proofs.Decoding.{imm_i_is}
 use Rattle.emit_native.proofs.Chains.{then, first}
-use Rattle.std.proofs.Common.{[], ◌∷◌, rules}
+use Rattle.std.proofs.Common.{[], ◌∷◌}
 use Rattle.instr32.proofs.emit_op_imm_32.Goals as goal
 
 pub returns : goal.returns

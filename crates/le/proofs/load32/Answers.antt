@@ -1,4 +1,3 @@
-use borrow.Author.Rules.{rules}
 use native.Mathlib.Omega.{arith}
 use Rattle.le.proofs.Laws.{load-add}
 use Rattle.le.proofs.load32.Goals as goal

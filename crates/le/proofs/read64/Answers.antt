@@ -1,9 +1,8 @@
 use native.Mathlib.Omega.{arith}
 use borrow.Author.Rules.{rules}
-use Prim.Native.Nat.{◌≤◌, ◌-◌, ◌*◌}
 use mathlib.Core.Path.{◌≡◌, ◌∙◌, refl, sym}
 use lib.Seq.{take_all}
-use lib.ListN.{length, take}
+use lib.ListN.{length}
 use Rattle.le.specs.Le.{numbers}
 use Rattle.le.proofs.Lists.{read_more}
 use Rattle.le.proofs.read64.Goals as goal

@@ -1,11 +1,7 @@
-use native.Mathlib.Omega.{arith}
-use borrow.Author.Rules.{rules}
 use Prim.Native.Nat.{◌≤◌, ◌-◌, ◌*◌}
-use mathlib.Core.Path.{◌≡◌, ◌∙◌, refl, sym}
-use lib.Seq.{take_all}
+use mathlib.Core.Path.{◌≡◌}
 use lib.ListN.{length, take}
 use Rattle.le.specs.Le.{numbers}
-use Rattle.le.proofs.Lists.{read_more}
 use Rattle.le.proofs.read64.Given as goal
 
 abbrev pub invariant-loop-i : goal.invariant-loop-i

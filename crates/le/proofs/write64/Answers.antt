@@ -1,11 +1,9 @@
 use native.Mathlib.Omega.{arith}
 use borrow.Author.Rules.{rules}
-use Prim.Native.Nat.{◌≤◌, ◌-◌, ◌*◌}
 use mathlib.Core.Path.{◌≡◌, ◌∙◌, refl}
 use lib.Seq.{take_all}
-use lib.ListN.{length, take}
+use lib.ListN.{length}
 use Rattle.le.specs.Le.{all_bytes}
-use Rattle.le.specs.Parts.{over}
 use Rattle.le.proofs.Lists.{write_more}
 use Rattle.le.proofs.write64.Goals as goal
 

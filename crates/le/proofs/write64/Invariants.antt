@@ -1,12 +1,7 @@
-use native.Mathlib.Omega.{arith}
-use borrow.Author.Rules.{rules}
 use Prim.Native.Nat.{◌≤◌, ◌-◌, ◌*◌}
-use mathlib.Core.Path.{◌≡◌, ◌∙◌, refl}
-use lib.Seq.{take_all}
+use mathlib.Core.Path.{◌≡◌}
 use lib.ListN.{length, take}
-use Rattle.le.specs.Le.{all_bytes}
 use Rattle.le.specs.Parts.{over}
-use Rattle.le.proofs.Lists.{write_more}
 use Rattle.le.proofs.write64.Given as goal
 
 abbrev pub invariant-loop-i : goal.invariant-loop-i

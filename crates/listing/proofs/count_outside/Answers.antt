@@ -1,13 +1,9 @@
-use borrow.Author.Rules.{rules}
 use native.Mathlib.Omega.{arith}
-use Prim.Native.Nat.{◌≤◌, ◌+◌, ◌-◌, ◌/◌, ◌*◌}
-use mathlib.Core.Path.{◌≡◌, refl}
-use lib.ListN.{length}
+use Prim.Native.Nat.{◌-◌, ◌*◌}
+use mathlib.Core.Path.{refl}
 use Rattle.le.specs.Le.{load}
 use Rattle.a64.specs.Forms.{decode}
-use Rattle.listing.specs.Listing.{block_lines}
-use Rattle.listing.specs.Parts.{outside_count}
-use Rattle.listing.proofs.Lines.{lines_from, next-count, ended-count, outside_at_most}
+use Rattle.listing.proofs.Lines.{next-count, ended-count, outside_at_most}
 use Rattle.listing.proofs.count_outside.Goals as goal
 
 pub loop-i-preserved : goal.loop-i-preserved

@@ -1,13 +1,9 @@
-use borrow.Author.Rules.{rules}
-use native.Mathlib.Omega.{arith}
-use Prim.Native.Nat.{◌≤◌, ◌+◌, ◌-◌, ◌/◌, ◌*◌}
-use mathlib.Core.Path.{◌≡◌, refl}
+use Prim.Native.Nat.{◌≤◌, ◌+◌, ◌-◌, ◌/◌}
+use mathlib.Core.Path.{◌≡◌}
 use lib.ListN.{length}
-use Rattle.le.specs.Le.{load}
-use Rattle.a64.specs.Forms.{decode}
 use Rattle.listing.specs.Listing.{block_lines}
 use Rattle.listing.specs.Parts.{outside_count}
-use Rattle.listing.proofs.Lines.{lines_from, next-count, ended-count, outside_at_most}
+use Rattle.listing.proofs.Lines.{lines_from}
 use Rattle.listing.proofs.count_outside.Given as goal
 
 abbrev pub invariant-loop-i : goal.invariant-loop-i

@@ -1,13 +1,11 @@
-use borrow.Author.Rules.{rules}
 use native.Mathlib.Omega.{arith}
-use Prim.Native.Nat.{◌≤◌, ◌-◌, ◌/◌, ◌*◌}
+use Prim.Native.Nat.{◌-◌, ◌*◌}
 use mathlib.Core.Path.{◌≡◌, refl, sym, ◌∙◌}
-use mathlib.Core.Bool.{true, false}
-use lib.ListN.{length}
+use mathlib.Core.Bool.{false}
 use Rattle.le.specs.Le.{load}
 use Rattle.a64.specs.Forms.{decode}
-use Rattle.listing.specs.Listing.{is_outside, any_outside}
-use Rattle.listing.proofs.Lines.{lines_from, apart, unreadable, outside_one, outside-zero, next-outside, ended-outside}
+use Rattle.listing.specs.Listing.{is_outside}
+use Rattle.listing.proofs.Lines.{apart, outside-zero, next-outside, ended-outside}
 use Rattle.listing.proofs.first_outside.Goals as goal
 
 pub loop-i-preserved : goal.loop-i-preserved

@@ -1,13 +1,9 @@
-use borrow.Author.Rules.{rules}
-use native.Mathlib.Omega.{arith}
-use Prim.Native.Nat.{◌≤◌, ◌-◌, ◌/◌, ◌*◌}
-use mathlib.Core.Path.{◌≡◌, refl, sym, ◌∙◌}
-use mathlib.Core.Bool.{true, false}
+use Prim.Native.Nat.{◌≤◌, ◌-◌, ◌/◌}
+use mathlib.Core.Path.{◌≡◌}
+use mathlib.Core.Bool.{true}
 use lib.ListN.{length}
-use Rattle.le.specs.Le.{load}
-use Rattle.a64.specs.Forms.{decode}
-use Rattle.listing.specs.Listing.{is_outside, any_outside}
-use Rattle.listing.proofs.Lines.{lines_from, apart, unreadable, outside_one, outside-zero, next-outside, ended-outside}
+use Rattle.listing.specs.Listing.{any_outside}
+use Rattle.listing.proofs.Lines.{lines_from}
 use Rattle.listing.proofs.first_outside.Given as goal
 
 abbrev pub invariant-loop-i : goal.invariant-loop-i

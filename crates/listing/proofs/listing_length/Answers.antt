@@ -1,14 +1,10 @@
-use borrow.Author.Rules.{rules}
 use native.Mathlib.Omega.{arith}
-use Prim.Native.Nat.{◌≤◌, ◌-◌, ◌/◌, ◌+◌, ◌*◌}
-use mathlib.Core.Path.{◌≡◌, refl, ap, ◌∙◌}
-use mathlib.Core.Bool.{false}
+use Prim.Native.Nat.{◌-◌, ◌*◌}
+use mathlib.Core.Path.{refl, ap, ◌∙◌}
 use lib.ListN.{length}
 use Rattle.le.specs.Le.{load}
-use Rattle.rules.specs.Limits.{longest_line}
-use Rattle.listing.specs.Listing.{block_lines, listing, any_outside}
 use Rattle.listing.proofs.Bound.{line_bound}
-use Rattle.listing.proofs.Lines.{lines_from, inside, next-length, ended-listing}
+use Rattle.listing.proofs.Lines.{inside, next-length, ended-listing}
 use Rattle.listing.proofs.listing_length.Goals as goal
 
 pub put_line-total-requires : goal.put_line-total-requires

@@ -1,14 +1,10 @@
-use borrow.Author.Rules.{rules}
-use native.Mathlib.Omega.{arith}
 use Prim.Native.Nat.{◌≤◌, ◌-◌, ◌/◌, ◌+◌, ◌*◌}
-use mathlib.Core.Path.{◌≡◌, refl, ap, ◌∙◌}
+use mathlib.Core.Path.{◌≡◌}
 use mathlib.Core.Bool.{false}
 use lib.ListN.{length}
-use Rattle.le.specs.Le.{load}
 use Rattle.rules.specs.Limits.{longest_line}
 use Rattle.listing.specs.Listing.{block_lines, listing, any_outside}
-use Rattle.listing.proofs.Bound.{line_bound}
-use Rattle.listing.proofs.Lines.{lines_from, inside, next-length, ended-listing}
+use Rattle.listing.proofs.Lines.{lines_from}
 use Rattle.listing.proofs.listing_length.Given as goal
 
 abbrev pub invariant-loop-i : goal.invariant-loop-i

@@ -1,13 +1,9 @@
-use borrow.Author.Rules.{rules}
 use native.Mathlib.Omega.{arith}
-use Prim.Native.Nat.{◌≤◌, ◌-◌, ◌/◌, ◌+◌}
-use mathlib.Core.Path.{◌≡◌, refl, sym, ap, ◌∙◌}
-use mathlib.Core.Bool.{false}
+use Prim.Native.Nat.{◌-◌}
+use mathlib.Core.Path.{refl, sym, ap, ◌∙◌}
 use lib.ListN.{length}
-use Rattle.le.specs.Le.{splice}
 use Rattle.le.proofs.Splices.{splice_nothing}
-use Rattle.listing.specs.Listing.{block_lines, listing, any_outside}
-use Rattle.listing.proofs.Lines.{lines_from, inside, next-length, ended-listing, splice-next}
+use Rattle.listing.proofs.Lines.{inside, next-length, ended-listing, splice-next}
 use Rattle.listing.proofs.put_lines.Goals as goal
 
 pub put_line-at-requires : goal.put_line-at-requires

@@ -1,4 +1,4 @@
-use Rattle.std.proofs.Common.{refl, arith, rules, eq-eqb, ne_eqb}
+use Rattle.std.proofs.Common.{refl, arith, eq-eqb, ne_eqb}
 use Rattle.rvc.proofs.Steps as Steps
 use Rattle.rv64.specs.Parts as S
 use Rattle.rv64.specs.Execute as X

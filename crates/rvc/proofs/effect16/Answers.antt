@@ -1,4 +1,4 @@
-use Rattle.std.proofs.Common.{arith, rules}
+use Rattle.std.proofs.Common.{arith}
 use Rattle.rv64.proofs.Tables.{missed}
 use Rattle.rv64.specs.Parts as S
 use Rattle.rv64.specs.Execute as X

@@ -1,4 +1,4 @@
-use Rattle.std.proofs.Common.{arith, rules, eq-eqb, ne_eqb}
+use Rattle.std.proofs.Common.{arith, eq-eqb, ne_eqb}
 use Rattle.rv64.proofs.Steps.{read-zero, write-zero}
 use Rattle.rvc.proofs.Steps as Steps
 use Rattle.rv64.specs.Parts as S

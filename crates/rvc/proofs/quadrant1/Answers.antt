@@ -1,11 +1,9 @@
-use Rattle.std.proofs.Common.{refl, arith, rules}
-use Rattle.rv64.proofs.Tables.{missed}
+use Rattle.std.proofs.Common.{refl, arith}
 use Rattle.rvc.proofs.Steps as Steps
 use Rattle.rv64.specs.Alu as N
 use Rattle.rv64.specs.Parts as S
 use Rattle.rv64.specs.Execute as X
 use Rattle.rvc.specs.Compressed as C
-use Rattle.rv64.specs.Decode.{itself}
 use Rattle.rvc.proofs.quadrant1.Goals as goal
 
 pub returns-in-0 : goal.returns-in-0

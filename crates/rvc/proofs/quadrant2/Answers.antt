@@ -1,4 +1,4 @@
-use Rattle.std.proofs.Common.{refl, arith, rules}
+use Rattle.std.proofs.Common.{refl, arith}
 use Rattle.rv64.proofs.Tables.{missed}
 use Rattle.rvc.proofs.Steps as Steps
 use Rattle.rv64.specs.Alu as N

@@ -1,6 +1,5 @@
 use mathlib.Core.List.{map-append}
 use Rattle.a64_emitter.proofs.Emission.{emitted_all-append}
-use borrow.Author.Rules.{rules}
 use Rattle.emit_native.specs.Calls.{call_words, product}
 use Rattle.term_helper.proofs.emit_call.Goals as goal
 

@@ -1,4 +1,3 @@
-use borrow.Author.Rules.{rules}
 use Rattle.term_helper.proofs.emit_exec.Goals as goal
 
 pub returns : goal.returns

@@ -1,5 +1,4 @@
 use Rattle.isa.proofs.Decoding.{imm_i_is}
-use borrow.Author.Rules.{rules}
 use Rattle.term_helper.proofs.emit_load.Goals as goal
 
 pub returns : goal.returns

@@ -1,7 +1,6 @@
 use mathlib.Core.Path.{refl}
 use borrow.Author.Tests.{ne_eqb}
 use Rattle.term_helper.specs.TermHelper.{load_helper, load_op}
-use borrow.Author.Rules.{rules}
 use Rattle.term_helper.proofs.emit_load_helper.Goals as goal
 
 pub returns-in-0 : goal.returns-in-0

@@ -1,6 +1,5 @@
 use mathlib.Core.Path.{refl}
 use Rattle.term_helper.specs.TermHelper.{emit_native_term_helper16}
-use borrow.Author.Rules.{rules}
 use Rattle.term_helper.proofs.emit_native_term_helper16.Goals as goal
 
 pub returns-then-supports : goal.returns-then-supports

@@ -1,5 +1,4 @@
 use Rattle.term_helper.specs.TermHelper.{emit_native_term_helper32}
-use borrow.Author.Rules.{rules}
 use Rattle.term_helper.proofs.emit_native_term_helper32.Goals as goal
 
 pub returns : goal.returns

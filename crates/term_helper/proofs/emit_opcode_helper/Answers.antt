@@ -1,7 +1,6 @@
 use mathlib.Core.Path.{refl}
 use borrow.Author.Tests.{ne_eqb}
 use Rattle.term_helper.specs.TermHelper.{opcode_helper}
-use borrow.Author.Rules.{rules}
 use Rattle.term_helper.proofs.emit_opcode_helper.Goals as goal
 
 pub returns-in-115 : goal.returns-in-115

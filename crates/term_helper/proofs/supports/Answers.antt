@@ -1,7 +1,6 @@
 use borrow.Author.Tests.{ne_eqb}
 use mathlib.Core.Path.{refl}
 use Rattle.term_helper.specs.TermHelper.{supports}
-use borrow.Author.Rules.{rules}
 use Rattle.term_helper.proofs.supports.Goals as goal
 
 pub returns-in-0 : goal.returns-in-0

@@ -1,4 +1,3 @@
-use borrow.Author.Rules.{rules}
 use Rattle.translator.proofs.Translating.{is_drop, is_helper, is_plain}
 use Rattle.translator.proofs.end_kind.Goals as goal
 

@@ -1,4 +1,3 @@
-use borrow.Author.Rules.{rules}
 use Rattle.translator.specs.Translate.{end_number}
 use Rattle.translator.proofs.end_number.Goals as goal
 

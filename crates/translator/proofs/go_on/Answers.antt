@@ -1,9 +1,8 @@
 use borrow.Author.Rules.{rules}
 use native.Mathlib.Omega.{arith}
-use mathlib.Core.Path.{refl, sym, ◌∙◌}
 use Rattle.rules.specs.Limits.{max_words}
 use Rattle.a64_emitter.specs.Parts.{block_words}
-use Rattle.translator.proofs.Translating.{answered, clamped-block, few_bytes, at_most}
+use Rattle.translator.proofs.Translating.{answered, clamped-block, few_bytes}
 use Rattle.translator.proofs.go_on.Goals as goal
 
 pub answer_for-requires : goal.answer_for-requires

@@ -4,7 +4,7 @@ use mathlib.Core.Path.{◌≡◌, sym, ap, ◌∙◌}
 use lib.ListN.{length}
 use Rattle.rules.specs.Limits.{short_words}
 use Rattle.a64_emitter.specs.Parts.{short_block_words}
-use Rattle.translator.proofs.Translating.{no_slots, no_limit, odd, at_most, not_fetched, not_covered, answered, clamped-block, few_bytes, no_halfword, other-stop, untouched, all_lent}
+use Rattle.translator.proofs.Translating.{no_slots, no_limit, odd, not_fetched, not_covered, answered, clamped-block, few_bytes, no_halfword, other-stop, untouched, all_lent}
 use Rattle.translator.proofs.translate.Goals as goal
 
 pub returns-then-bad_slot_offset : goal.returns-then-bad_slot_offset

@@ -1,4 +1,4 @@
-use Rattle.std.proofs.Common.{◌-◌, ◌^◌, le_trans, div-le_self, arith, rules, le-leb}
+use Rattle.std.proofs.Common.{le-leb}
 use borrow.Author.Tests.{lt-leb}
 use Rattle.word.specs.Word.{asr}
 use Rattle.word.proofs.asr.Goals as goal

@@ -1,4 +1,4 @@
-use Rattle.std.proofs.Common.{arith, rules, le-leb}
+use Rattle.std.proofs.Common.{arith, le-leb}
 use borrow.Author.Tests.{lt-leb}
 use Rattle.word.specs.Word.{magnitude}
 use Rattle.word.proofs.magnitude.Goals as goal

@@ -1,4 +1,4 @@
-use Rattle.std.proofs.Common.{◌∙◌, rules}
+use Rattle.std.proofs.Common.{◌∙◌}
 use Rattle.word.proofs.Products.{whole, low_of}
 use Rattle.word.proofs.mul.Goals as goal
 

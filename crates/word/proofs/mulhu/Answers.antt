@@ -1,4 +1,3 @@
-use Rattle.std.proofs.Common.{rules}
 use Rattle.word.proofs.Products.{whole, high_of}
 use Rattle.word.proofs.mulhu.Goals as goal
 

@@ -1,4 +1,4 @@
-use Rattle.std.proofs.Common.{sym, rules}
+use Rattle.std.proofs.Common.{sym}
 use native.Mathlib.Nat.{div-zero}
 use Rattle.word.proofs.Signs.{signed-zero}
 use mathlib.Core.Bool.{xor}

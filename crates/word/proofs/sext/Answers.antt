@@ -1,4 +1,4 @@
-use Rattle.std.proofs.Common.{◌∙◌, arith, rules}
+use Rattle.std.proofs.Common.{◌∙◌, arith}
 use Rattle.word.proofs.Extend.{by_shifts}
 use Rattle.word.proofs.sext.Goals as goal
 

@@ -1,4 +1,4 @@
-use Rattle.std.proofs.Common.{◌-◌, ◌^◌, zero-add, rules}
+use Rattle.std.proofs.Common.{◌-◌, ◌^◌, zero-add}
 use Rattle.word.specs.Word.{signed}
 use Rattle.word.proofs.signed.Goals as goal
 

@@ -1,4 +1,4 @@
-use Rattle.std.proofs.Common.{refl, rules}
+use Rattle.std.proofs.Common.{refl}
 use Rattle.word.specs.Word.{slt}
 use Rattle.word.proofs.slt.Goals as goal
 

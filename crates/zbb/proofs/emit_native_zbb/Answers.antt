@@ -2,7 +2,6 @@ use borrow.Author.Tests.{ne_eqb}
 use Rattle.zbb.specs.Words.{zbb_body}
 use Rattle.zbb.specs.Emission.{emission}
 use Rattle.isa.specs.Zbb.{registers, word_shifts, word_shift_of, find}
-use borrow.Author.Rules.{rules}
 use Rattle.zbb.proofs.Taken.{taken}
 use Rattle.zbb.proofs.emit_native_zbb.Goals as goal
 

@@ -1,7 +1,6 @@
 use mathlib.Core.List.{◌++◌}
 use Rattle.zbb.specs.Words.{rotated}
 use Rattle.zbb.specs.Parts.{operands}
-use borrow.Author.Rules.{rules}
 use Rattle.zbb.proofs.rotated.Goals as goal
 
 pub returns : goal.returns

@@ -1,7 +1,6 @@
 use mathlib.Core.List.{[], ◌∷◌, ◌++◌}
 use Rattle.emit_native.specs.Calls.{emit}
 use Rattle.zbb.specs.Parts.{operands}
-use borrow.Author.Rules.{rules}
 use Rattle.zbb.proofs.two.Goals as goal
 
 pub returns : goal.returns

@@ -1,4 +1,3 @@
-use borrow.Author.Rules.{rules}
 use Rattle.a64_emitter.specs.Parts.{block_words}
 use Rattle.a64_emitter.proofs.A64Emitter.mov_imm64_if.Goals as goal
 

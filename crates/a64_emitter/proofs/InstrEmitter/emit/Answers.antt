@@ -1,4 +1,3 @@
-use borrow.Author.Rules.{rules}
 use Rattle.a64_emitter.specs.Parts.{held}
 use Rattle.a64_emitter.proofs.InstrEmitter.emit.Goals as goal
 

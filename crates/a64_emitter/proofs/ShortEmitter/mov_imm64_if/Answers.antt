@@ -1,4 +1,3 @@
-use borrow.Author.Rules.{rules}
 use Rattle.a64_emitter.specs.Parts.{short_block_words}
 use Rattle.a64_emitter.proofs.ShortEmitter.mov_imm64_if.Goals as goal
 

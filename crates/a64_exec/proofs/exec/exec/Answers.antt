@@ -1,5 +1,5 @@
 use Rattle.std.proofs.Common.{ℕ, ap, rules}
-use Rattle.a64_exec.specs.Exec.{State, machine, with_sp, next, exec}
+use Rattle.a64_exec.specs.Exec.{machine, with_sp, next, exec}
 use Rattle.a64_alu.proofs.Comparing.{difference-sub}
 use Rattle.a64_exec.proofs.Reach.{insert-zero, by_result, by_leave}
 use Rattle.a64_exec.proofs.exec.exec.Goals as goal

@@ -1,4 +1,4 @@
-use Rattle.std.proofs.Common.{sym, ◌∙◌, rules, eq-eqb, ne_eqb}
+use Rattle.std.proofs.Common.{sym, ◌∙◌, eq-eqb, ne_eqb}
 use Rattle.a64_run.specs.Run.{answered}
 use Rattle.a64_run.proofs.run.a64_run_from.Goals as goal
 

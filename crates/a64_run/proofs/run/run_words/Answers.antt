@@ -1,7 +1,6 @@
-use Rattle.std.proofs.Common.{◌-◌, length, add_assoc, add-one, rules}
-use Rattle.a64_exec.specs.Exec.{machine}
-use Rattle.a64_run.specs.Run.{onward, from}
-use Rattle.a64_run.proofs.RunLaws.{Running, start, off_end, spent, ended, onto}
+use Rattle.std.proofs.Common.{◌-◌, add_assoc, add-one}
+use Rattle.a64_run.specs.Run.{onward}
+use Rattle.a64_run.proofs.RunLaws.{off_end, spent, ended, onto}
 use Rattle.a64_run.proofs.run.run_words.Goals as goal
 
 pub returns-then-k-budget : goal.returns-then-k-budget

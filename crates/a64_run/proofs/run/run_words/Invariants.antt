@@ -1,7 +1,7 @@
-use Rattle.std.proofs.Common.{◌-◌, length, add_assoc, add-one, rules}
+use Rattle.std.proofs.Common.{◌-◌, length}
 use Rattle.a64_exec.specs.Exec.{machine}
-use Rattle.a64_run.specs.Run.{onward, from}
-use Rattle.a64_run.proofs.RunLaws.{Running, start, off_end, spent, ended, onto}
+use Rattle.a64_run.specs.Run.{from}
+use Rattle.a64_run.proofs.RunLaws.{Running}
 use Rattle.a64_run.proofs.run.run_words.Given as goal
 
 -- what is left of the run ends as the whole does

@@ -1,4 +1,3 @@
-use borrow.Author.Rules.{rules}
 use native.Mathlib.Omega.{arith}
 use Rattle.a64_text.proofs.Rows.{one, two, three, both_sp}
 use lib.Dec.{lit<}

@@ -1,4 +1,3 @@
-use borrow.Author.Rules.{rules}
 use Rattle.a64_text.proofs.Rows.{three}
 use lib.Dec.{lit<}
 use mathlib.Core.Path.{refl}

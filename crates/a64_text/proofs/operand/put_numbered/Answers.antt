@@ -1,4 +1,3 @@
-use borrow.Author.Rules.{rules}
 use Rattle.ascii.proofs.Writing.{then}
 use Rattle.a64_text.proofs.operand.put_numbered.Goals as goal
 

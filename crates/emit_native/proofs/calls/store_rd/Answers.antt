@@ -2,7 +2,6 @@ use Prim.Native.Nat.{ℕ}
 use mathlib.Core.Path.{◌≡◌, refl}
 use mathlib.Core.List.{List}
 use lib.Dec.{eqb}
-use borrow.Author.Rules.{rules}
 use Rattle.a64_emitter.specs.Parts.{emitted, emitted_if, emitted_all}
 use Rattle.a64_emitter.proofs.Emission.{emitted-none}
 use Rattle.emit_native.specs.declared.EmitFlow.{EmitFlow}

@@ -1,5 +1,4 @@
 use mathlib.Core.Path.{refl}
-use borrow.Author.Rules.{rules}
 use Rattle.emit_native.specs.Parts.{stores}
 use Rattle.emit_native.proofs.calls.stores.Goals as goal
 

@@ -1,4 +1,4 @@
-use Rattle.std.proofs.Common.{refl, rules, ne_eqb}
+use Rattle.std.proofs.Common.{refl, ne_eqb}
 use Rattle.instr32.specs.Instr32.{op_32_arm}
 use Rattle.instr32.proofs.op_32.emit_op_32_arm.Goals as goal
 

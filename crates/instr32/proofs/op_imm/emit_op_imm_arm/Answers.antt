@@ -1,4 +1,4 @@
-use Rattle.std.proofs.Common.{refl, rules, eq-eqb, ne_eqb}
+use Rattle.std.proofs.Common.{refl, eq-eqb, ne_eqb}
 use Rattle.instr32.specs.Instr32.{op_imm_arm}
 use Rattle.instr32.proofs.op_imm.emit_op_imm_arm.Goals as goal
 

@@ -1,4 +1,4 @@
-use Rattle.std.proofs.Common.{◌≡◌, ◌≤◌, length, take, refl, arith, rules}
+use Rattle.std.proofs.Common.{◌≡◌, length, take, refl, arith, rules}
 use Rattle.rules.specs.Limits.{short_words}
 use Rattle.a64_emitter.specs.Parts.{short_block_words, in_turn}
 use Rattle.jit_arm64.proofs.Walking.{begin}

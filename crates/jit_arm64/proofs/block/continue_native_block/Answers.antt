@@ -1,7 +1,6 @@
-use Rattle.std.proofs.Common.{◌≡◌, ◌≤◌, length, take, refl, arith, rules}
+use Rattle.std.proofs.Common.{◌≡◌, take, refl, arith}
 use Rattle.rules.specs.Limits.{max_words}
 use Rattle.a64_emitter.specs.Parts.{block_words, in_turn}
-use Rattle.jit_arm64.proofs.Walking.{moved}
 use Rattle.jit_arm64.proofs.Ending.{ends, closed}
 use Rattle.jit_arm64.proofs.block.continue_native_block.Goals as goal
 

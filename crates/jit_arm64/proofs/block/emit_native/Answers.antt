@@ -1,4 +1,4 @@
-use Rattle.std.proofs.Common.{◌∙◌, arith, rules}
+use Rattle.std.proofs.Common.{◌∙◌, arith}
 use Rattle.isa.specs.Zbb.{find}
 use Rattle.isa.proofs.ZbbRows.{is_nothing}
 use Rattle.jit_arm64.proofs.Emitting.{inline16, native32, inline-rust, compiled, rust_compiled}

@@ -1,4 +1,4 @@
-use Rattle.std.proofs.Common.{arith, rules}
+use Rattle.std.proofs.Common.{arith}
 use Rattle.jit_arm64.proofs.Emitting.{helper16, helper32, compiled_helper}
 use Rattle.jit_arm64.proofs.block.emit_term_helper.Goals as goal
 

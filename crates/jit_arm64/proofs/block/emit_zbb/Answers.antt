@@ -1,4 +1,4 @@
-use Rattle.std.proofs.Common.{sym, ◌∙◌, rules}
+use Rattle.std.proofs.Common.{sym, ◌∙◌}
 use Rattle.isa.specs.Zbb.{find}
 use Rattle.jit_arm64.proofs.Emitting.{zbb_flow, zbb_refuses, inline-rust, inline_zbb, compiled}
 use Rattle.jit_arm64.proofs.block.emit_zbb.Goals as goal

@@ -1,4 +1,4 @@
-use Rattle.std.proofs.Common.{sym, refl, rules}
+use Rattle.std.proofs.Common.{sym, refl}
 use Rattle.jit_arm64.specs.Parts.{has_return}
 use Rattle.jit_arm64.proofs.Flows.{returned}
 use Rattle.jit_arm64.proofs.block.has_return.Goals as goal

@@ -1,4 +1,4 @@
-use Rattle.std.proofs.Common.{sym, refl, rules}
+use Rattle.std.proofs.Common.{sym, refl}
 use Rattle.jit_arm64.specs.Parts.{helped_stop}
 use Rattle.jit_arm64.proofs.Flows.{not_taken}
 use Rattle.jit_arm64.proofs.block.helper_stop.Goals as goal

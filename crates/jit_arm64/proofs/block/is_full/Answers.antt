@@ -1,4 +1,4 @@
-use Rattle.std.proofs.Common.{sym, refl, rules}
+use Rattle.std.proofs.Common.{sym, refl}
 use Rattle.jit_arm64.specs.Parts.{is_full}
 use Rattle.jit_arm64.proofs.Flows.{not_full}
 use Rattle.jit_arm64.proofs.block.is_full.Goals as goal

@@ -1,4 +1,3 @@
-use Rattle.std.proofs.Common.{sym, true≢false}
 use Rattle.isa.proofs.ZbbRows.{no_zbb}
 use Rattle.jit_arm64.proofs.block.may_be_zbb.Goals as goal
 

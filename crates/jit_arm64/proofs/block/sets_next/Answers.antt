@@ -1,4 +1,4 @@
-use Rattle.std.proofs.Common.{sym, refl, rules}
+use Rattle.std.proofs.Common.{sym, refl}
 use Rattle.jit_arm64.specs.Parts.{sets_next}
 use Rattle.jit_arm64.proofs.Flows.{next-set}
 use Rattle.jit_arm64.proofs.block.sets_next.Goals as goal

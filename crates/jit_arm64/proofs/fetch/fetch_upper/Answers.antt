@@ -1,4 +1,4 @@
-use Rattle.std.proofs.Common.{◌≡◌, ◌+◌, length, sym, ◌∙◌, arith, rules, eqb-true, le-leb}
+use Rattle.std.proofs.Common.{◌≡◌, ◌+◌, length, sym, ◌∙◌, arith, eqb-true, le-leb}
 use borrow.Author.Tests.{lt-leb}
 use Rattle.word.specs.Word.{add}
 use Rattle.fetch_window.specs.Parts.{index}

@@ -1,4 +1,3 @@
-use borrow.Author.Rules.{rules}
 use Rattle.a64.specs.Forms.{decode}
 use Rattle.listing.proofs.Lines.{outside_cond}
 use Rattle.listing.proofs.forms.is_outside.Goals as goal

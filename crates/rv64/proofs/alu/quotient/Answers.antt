@@ -1,4 +1,4 @@
-use Rattle.std.proofs.Common.{rules, eq-eqb, ne_eqb}
+use Rattle.std.proofs.Common.{eq-eqb, ne_eqb}
 use Rattle.rv64.specs.Alu.{quotient}
 use Rattle.rv64.proofs.alu.quotient.Goals as goal
 

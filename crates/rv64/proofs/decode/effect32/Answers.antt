@@ -1,4 +1,4 @@
-use Rattle.std.proofs.Common.{arith, rules}
+use Rattle.std.proofs.Common.{arith}
 use Rattle.isa.specs.Classes.{class_of}
 use Rattle.rv64.proofs.Steps as Steps
 use Rattle.rv64.specs.Parts as S

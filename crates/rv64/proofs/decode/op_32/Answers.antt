@@ -3,7 +3,6 @@ use Rattle.rv64.specs.Decode as D
 use Rattle.rv64.specs.Alu as N
 use Rattle.rv64.specs.declared.execute.Computed.{Computed}
 use Rattle.rv64.specs.declared.alu.Alu.{Alu}
-use Rattle.std.proofs.Common.{rules}
 use Rattle.rv64.proofs.decode.op_32.Goals as goal
 
 pub returns-in-0 : goal.returns-in-0

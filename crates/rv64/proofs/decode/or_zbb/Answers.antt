@@ -1,6 +1,5 @@
 use Rattle.rv64.specs.Parts as S
 use Rattle.rv64.proofs.Base.{kept}
-use Rattle.std.proofs.Common.{rules}
 use Rattle.rv64.proofs.decode.or_zbb.Goals as goal
 
 pub returns-in-Uncovered : goal.returns-in-Uncovered

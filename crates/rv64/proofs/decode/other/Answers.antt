@@ -1,7 +1,6 @@
 use Rattle.rv64.proofs.Tables.{missed}
 use Rattle.rv64.specs.Parts as S
 use Rattle.rv64.specs.Decode.{itself}
-use Rattle.std.proofs.Common.{rules}
 use Rattle.rv64.proofs.decode.other.Goals as goal
 
 pub returns-in-3 : goal.returns-in-3

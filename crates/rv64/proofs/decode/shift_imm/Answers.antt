@@ -5,7 +5,6 @@ use Rattle.rv64.specs.Decode as D
 use Rattle.rv64.specs.Parts as S
 use Rattle.isa.specs.Formats as F
 use Rattle.rv64.proofs.Tables.{missed}
-use Rattle.std.proofs.Common.{rules}
 use Rattle.rv64.proofs.decode.shift_imm.Goals as goal
 
 pub returns-in-1 : goal.returns-in-1

@@ -1,6 +1,5 @@
 use Rattle.rv64.proofs.Base.{base-first}
 use Rattle.rv64.proofs.Steps as Steps
-use Rattle.std.proofs.Common.{rules}
 use Rattle.rv64.proofs.decode.step32.Goals as goal
 
 pub apply-requires : goal.apply-requires

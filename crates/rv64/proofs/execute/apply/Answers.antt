@@ -1,4 +1,4 @@
-use Rattle.std.proofs.Common.{refl, rules}
+use Rattle.std.proofs.Common.{refl}
 use Rattle.rv64.specs.Parts as S
 use Rattle.rv64.proofs.execute.apply.Goals as goal
 

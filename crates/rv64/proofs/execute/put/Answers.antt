@@ -1,5 +1,4 @@
 use Rattle.rv64.specs.Parts as S
-use Rattle.std.proofs.Common.{rules}
 use Rattle.rv64.proofs.execute.put.Goals as goal
 
 pub returns-in-Value : goal.returns-in-Value

@@ -1,4 +1,4 @@
-use Rattle.std.proofs.Common.{rules, eq-eqb, ne_eqb}
+use Rattle.std.proofs.Common.{eq-eqb, ne_eqb}
 use Rattle.rv64.specs.Execute.{read}
 use Rattle.rv64.proofs.execute.read.Goals as goal
 

@@ -1,4 +1,4 @@
-use Rattle.std.proofs.Common.{sym, rules}
+use Rattle.std.proofs.Common.{sym}
 use Rattle.rv64.proofs.Steps.{write_0, write-other}
 use Rattle.rv64.proofs.execute.set.Goals as goal
 

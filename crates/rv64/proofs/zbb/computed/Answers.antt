@@ -1,4 +1,4 @@
-use Rattle.std.proofs.Common.{ap, ◌∙◌, rules}
+use Rattle.std.proofs.Common.{ap, ◌∙◌}
 use Rattle.isa.specs.declared.zbb.Zbb.{Zbb}
 use Rattle.isa.specs.Formats.{inst}
 use Rattle.isa.specs.declared.zbb.Found.{Found}

@@ -1,5 +1,4 @@
 use Rattle.rv64.specs.Zbb.{zbb_value}
-use Rattle.std.proofs.Common.{rules}
 use Rattle.rv64.proofs.zbb.rolw.Goals as goal
 
 pub returns : goal.returns

@@ -1,4 +1,4 @@
-use Rattle.std.proofs.Common.{ap, rules}
+use Rattle.std.proofs.Common.{ap}
 use Rattle.isa.specs.declared.zbb.Found.{Found}
 use Rattle.isa.specs.Zbb as Z
 use Rattle.rv64.specs.Zbb.{zbb_value}

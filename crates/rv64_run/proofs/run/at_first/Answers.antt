@@ -1,5 +1,4 @@
 use Rattle.rv64_run.specs.Parts as S
-use borrow.Author.Rules.{rules}
 use Rattle.rv64_run.proofs.run.at_first.Goals as goal
 
 pub returns-in-NotFetched : goal.returns-in-NotFetched

@@ -2,7 +2,6 @@ use borrow.Author.Tests.{eq-eqb, ne_eqb, lt-ltb, le-ltb}
 use lib.ListN.{length-drop}
 use Rattle.rv64_run.specs.Parts.{encoding}
 use Rattle.rv64_run.proofs.Fetching.{at_front}
-use borrow.Author.Rules.{rules}
 use Rattle.rv64_run.proofs.run.fetch.Goals as goal
 
 pub returns-then-left-lt2 : goal.returns-then-left-lt2

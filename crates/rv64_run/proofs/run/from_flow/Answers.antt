@@ -1,5 +1,4 @@
 use Rattle.rv64_run.specs.Parts as S
-use borrow.Author.Rules.{rules}
 use Rattle.rv64_run.proofs.run.from_flow.Goals as goal
 
 pub returns-in-Next : goal.returns-in-Next

@@ -1,5 +1,4 @@
 use Rattle.rv64_run.specs.Run.{number}
-use borrow.Author.Rules.{rules}
 use Rattle.rv64_run.proofs.run.number.Goals as goal
 
 pub returns-in-Accepted : goal.returns-in-Accepted

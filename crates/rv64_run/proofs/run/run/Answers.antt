@@ -1,7 +1,6 @@
-use borrow.Author.Rules.{rules}
 use native.Mathlib.Omega.{arith}
 use Prim.Native.Nat.{◌-◌}
-use Rattle.rv64_run.proofs.Running.{Running, begin, at_limit, onto, one, fits, on}
+use Rattle.rv64_run.proofs.Running.{at_limit, onto, one, fits, on}
 use Rattle.rv64_run.proofs.run.run.Goals as goal
 
 pub overflow_add-at : goal.overflow_add-at

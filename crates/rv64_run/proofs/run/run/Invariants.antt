@@ -1,7 +1,5 @@
-use borrow.Author.Rules.{rules}
-use native.Mathlib.Omega.{arith}
 use Prim.Native.Nat.{◌-◌}
-use Rattle.rv64_run.proofs.Running.{Running, begin, at_limit, onto, one, fits, on}
+use Rattle.rv64_run.proofs.Running.{Running}
 use Rattle.rv64_run.proofs.run.run.Given as goal
 
 abbrev pub invariant-loop-n : goal.invariant-loop-n

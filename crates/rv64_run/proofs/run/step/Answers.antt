@@ -1,7 +1,6 @@
 use mathlib.Core.Path.{refl}
 use Rattle.rv64_run.specs.Parts.{stepped, after}
 use Rattle.rv64_run.proofs.Fetching.{fetched, decoded}
-use borrow.Author.Rules.{rules}
 use Rattle.rv64_run.proofs.run.step.Goals as goal
 
 pub returns-in-Missing : goal.returns-in-Missing

@@ -1,5 +1,5 @@
 -- Assumes nothing.
-use Rattle.std.proofs.Common.{arith, rules}
+use Rattle.std.proofs.Common.{arith}
 use Rattle.word.specs.Bytes.{reversed}
 use Rattle.word.proofs.bytes.reversed.Goals as goal
 

@@ -1,4 +1,4 @@
-use Rattle.std.proofs.Common.{refl, arith, rules}
+use Rattle.std.proofs.Common.{refl}
 use Rattle.word.proofs.Rotations.{other_way}
 use Rattle.word.proofs.bytes.rol.Goals as goal
 

@@ -1,4 +1,4 @@
-use Rattle.std.proofs.Common.{arith, rules, eqb-true}
+use Rattle.std.proofs.Common.{arith, eqb-true}
 use Rattle.word.proofs.Rotations.{ror-zero}
 use Rattle.word.proofs.bytes.ror.Goals as goal
 

@@ -1,6 +1,4 @@
 -- Assumes nothing.
-use Rattle.std.proofs.Common.{arith}
-use lib.Count.{leading_le}
 use Rattle.word.proofs.Counting.{leading_is}
 use Rattle.word.proofs.counts.clz.Goals as goal
 

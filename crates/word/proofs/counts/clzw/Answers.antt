@@ -1,6 +1,4 @@
 -- Assumes nothing.
-use Rattle.std.proofs.Common.{◌%◌, arith, rules}
-use lib.Count.{leading_le}
 use Rattle.word.proofs.Counting.{leading_low}
 use Rattle.word.proofs.counts.clzw.Goals as goal
 

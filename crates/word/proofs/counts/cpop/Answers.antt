@@ -1,6 +1,4 @@
 -- Assumes nothing.
-use Rattle.std.proofs.Common.{arith}
-use lib.Count.{ones-le}
 use Rattle.word.proofs.Counting.{ones_is}
 use Rattle.word.proofs.counts.cpop.Goals as goal
 

@@ -1,6 +1,4 @@
 -- Assumes nothing.
-use Rattle.std.proofs.Common.{◌%◌, arith, rules}
-use lib.Count.{ones-le}
 use Rattle.word.proofs.Counting.{ones_low}
 use Rattle.word.proofs.counts.cpopw.Goals as goal
 

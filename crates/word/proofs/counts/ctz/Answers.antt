@@ -1,6 +1,4 @@
 -- Assumes nothing.
-use Rattle.std.proofs.Common.{lt_of_le_of_lt, arith}
-use lib.Count.{trailing_le}
 use Rattle.word.proofs.Counting.{trailing_is}
 use Rattle.word.proofs.counts.ctz.Goals as goal
 

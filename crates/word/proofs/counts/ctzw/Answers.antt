@@ -1,6 +1,4 @@
 -- Assumes nothing.
-use Rattle.std.proofs.Common.{◌%◌, arith, rules}
-use lib.Count.{trailing_le}
 use Rattle.word.proofs.Counting.{trailing-low}
 use Rattle.word.proofs.counts.ctzw.Goals as goal
 

@@ -1,6 +1,5 @@
 use Rattle.emit_native.specs.Calls.{continue}
 use Rattle.emit_native.proofs.Chains.{then}
-use borrow.Author.Rules.{rules}
 use Rattle.zbb.proofs.fields.finish.Goals as goal
 
 pub returns : goal.returns

@@ -7,7 +7,6 @@ use Rattle.emit_native.specs.Calls.{load, mov_imm64}
 use Rattle.zbb.specs.Words.{zbb_body}
 use Rattle.zbb.specs.Emission.{emission}
 use Rattle.isa.specs.Zbb.{shifts, shift_of}
-use borrow.Author.Rules.{rules}
 use Rattle.zbb.proofs.Taken.{taken}
 use Rattle.zbb.proofs.number.emit_rori.Goals as goal
 

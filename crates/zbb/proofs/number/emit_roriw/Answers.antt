@@ -4,7 +4,6 @@ use Rattle.isa.specs.Formats.{inst, rs1}
 use Rattle.emit_native.specs.Calls.{load, mov_imm64}
 use Rattle.zbb.specs.Words.{zbb_body}
 use Rattle.zbb.specs.Emission.{emission}
-use borrow.Author.Rules.{rules}
 use Rattle.zbb.proofs.number.emit_roriw.Goals as goal
 
 pub returns : goal.returns

@@ -1,7 +1,6 @@
 use mathlib.Core.List.{◌++◌}
 use Rattle.zbb.specs.Words.{extended}
 use Rattle.zbb.specs.Parts.{operand}
-use borrow.Author.Rules.{rules}
 use Rattle.zbb.proofs.unary.extended.Goals as goal
 
 pub returns : goal.returns

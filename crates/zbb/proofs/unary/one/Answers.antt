@@ -1,7 +1,6 @@
 use mathlib.Core.List.{[], ◌∷◌, ◌++◌}
 use Rattle.emit_native.specs.Calls.{emit}
 use Rattle.zbb.specs.Parts.{operand}
-use borrow.Author.Rules.{rules}
 use Rattle.zbb.proofs.unary.one.Goals as goal
 
 pub returns : goal.returns

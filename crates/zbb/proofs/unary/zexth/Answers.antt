@@ -3,7 +3,6 @@ use Rattle.isa.specs.declared.zbb.Zbb.{Zbb}
 use Rattle.zbb.specs.Words.{zbb_body}
 use Rattle.zbb.specs.Emission.{emission}
 use Rattle.zbb.specs.Parts.{operand}
-use borrow.Author.Rules.{rules}
 use Rattle.zbb.proofs.unary.zexth.Goals as goal
 
 pub returns : goal.returns
