@@ -50,7 +50,7 @@ fn main(rt: HostRuntime) -> io::Result<()> {
         helper16: 0x30000,
         ignore_ebreak: input[12] != 0,
     };
-    let mut output = vec![in rt.alloc(); 0u8; 4 * rules::MAX_WORDS]?;
+    let mut output = [0u8; 4 * rules::MAX_WORDS];
     let answer = translator::translate(&input[HEADER..], pc, limit, host, &mut output);
     print_answer(&rt, &answer, &output)
 }
