@@ -1,7 +1,7 @@
 // What the programs share that replay recorded cases: reading a file of them, counting, and the report.
 #![tactic(auto)]
 
-ghost use Rattle.std.specs.Prelude.{◌≡◌, ◌+◌, ◌-◌, ◌%◌, ◌^◌, ◌<◌, ◌≤◌, ◌++◌, ◌↔◌, min, length, take, drop, slice_index, IsTrue, if◌then◌else◌};
+ghost use Rattle.std.specs.Prelude.{◌≡◌, ◌≢◌, ◌+◌, ◌-◌, ◌%◌, ◌^◌, ◌<◌, ◌≤◌, ◌++◌, ◌↔◌, min, length, take, drop, slice_index, IsTrue, if◌then◌else◌};
 ghost use Rattle.le.specs.Le.{load};
 ghost use Rattle.replay.specs.declared.Outcome.{Outcome};
 
@@ -155,7 +155,13 @@ pub fn tally_of(left: u32) -> Tally
 }
 
 // How many cases the file has, by its header; none where that begins with another number.
-pub fn read_header(file: &mut &[u8], magic: u64) -> Tally {
+pub fn read_header(file: &mut &[u8], magic: u64) -> Tally
+    ensures other { 8 ≤ length file.old.now → load 8 file.old.now 0 ≢ magic → result.left ≡ 0 }
+    ensures left { 12 ≤ length file.old.now → load 8 file.old.now 0 ≡ magic → result.left ≡ load 4 file.old.now 8 }
+    ensures cases { result.cases ≡ 0 }
+    ensures wrong { result.wrong ≡ 0 }
+    ensures rest { file.new.now ≡ drop 12 file.old.now }
+{
     let mut header = [0; 12];
     read_full(file, &mut header);
     if le::load64(&header, 0) != magic {
@@ -164,14 +170,21 @@ pub fn read_header(file: &mut &[u8], magic: u64) -> Tally {
     tally_of(le::load32(&header, 8))
 }
 
+fn one_less(n: u32) -> u32
+    ensures { result ≡ n - 1 }
+{
+    n.saturating_sub(1)
+}
+
 // The tally after one case more.
 pub fn counted(tally: Tally, outcome: Outcome) -> Tally
     ensures left { result.left ≤ tally.left - 1 }
-    ensures equal { outcome ≡ Outcome.Equal → (result.cases ≡ (tally.cases + 1) % 2 ^ 32) × (result.wrong ≡ tally.wrong) }
-    ensures differs { outcome ≡ Outcome.Differs → (result.cases ≡ (tally.cases + 1) % 2 ^ 32) × (result.wrong ≡ (tally.wrong + 1) % 2 ^ 32) }
+    ensures cases { outcome ≢ Outcome.End → result.cases ≡ (tally.cases + 1) % 2 ^ 32 }
+    ensures equal { outcome ≡ Outcome.Equal → result.wrong ≡ tally.wrong }
+    ensures differs { outcome ≡ Outcome.Differs → result.wrong ≡ (tally.wrong + 1) % 2 ^ 32 }
     ensures end { outcome ≡ Outcome.End → result ≡ record tally { left = 0 } }
 {
-    let left = tally.left.saturating_sub(1);
+    let left = one_less(tally.left);
     let cases = tally.cases.wrapping_add(1);
     let wrong = tally.wrong;
     match outcome {
