@@ -7,7 +7,8 @@ use a64_run::run::Answer;
 use std::io;
 use std::rt::Files;
 
-// Whether the answer is the recorded one: every register, SP, NZCV, every memory byte, end and steps. `x` is as at entry.
+// Whether the answer is the recorded one: every register, SP, NZCV, every memory byte, end and steps.
+// `x` is as at entry.
 fn answers(
     file: &mut &[u8],
     answer: Answer,
@@ -70,7 +71,8 @@ fn replay_case(file: &mut &[u8]) -> bool {
 // "A64CASES"
 const MAGIC: u64 = 0x5345_5341_4334_3641;
 
-// Replays a file's cases and says how many there were and how many differ. A file that goes on after them differs too.
+// Replays a file's cases and says how many there were and how many differ.
+// A file that goes on after them differs too.
 fn replay_file(rt: &(impl Files + Print + Eprint + AllocGlobal), path: &str) -> io::Result<()> {
     let Some(bytes) = replay::open(rt, path)? else {
         return Ok(());

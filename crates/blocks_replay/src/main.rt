@@ -37,8 +37,9 @@ fn same_answer(answer: Answer, found: &[u8; 5]) -> bool {
         && answer.length == 4 * (le::load16(found, 3) as u32)
 }
 
-// Compares refusal, end kind, count, length and every byte of the output. `output` and `expected` come with the same
-// bytes, and the recorded words go to the front of `expected`: the bytes after them, and all under a refusal, must stay.
+// Compares refusal, end kind, count, length and every byte of the output.
+// `output` and `expected` come with the same bytes, and the recorded words go to the front of `expected`.
+// So the bytes after them, and all under a refusal, must stay.
 fn agrees(
     file: &mut &[u8],
     guest: &[u8],
@@ -60,7 +61,8 @@ fn agrees(
     whole && same_answer(answer, &found) && &*output == &*expected
 }
 
-// The output is as long as the case says. The files offer 7,704 bytes at most; more than 8,192 would count as differing.
+// The output is as long as the case says.
+// The files offer 7,704 bytes at most; more than 8,192 would count as differing.
 fn replay_question(file: &mut &[u8], guest: &[u8]) -> bool {
     let mut asked = [0u8; 49];
     if replay::read_full(file, &mut asked) < 49 {
@@ -102,8 +104,8 @@ fn replay_case(file: &mut &[u8]) -> bool {
 // "A64BLOCK"
 const MAGIC: u64 = 0x4b43_4f4c_4234_3641;
 
-// Replays a file's cases and says how many there were and how many differ, and whether the file goes on after them. The
-// seed after the header is not used.
+// Replays a file's cases and says how many there were and how many differ, and whether the file goes on after them.
+// The seed after the header is not used.
 fn replay_file(rt: &(impl Files + Print + Eprint + AllocGlobal), path: &str) -> io::Result<()> {
     let Some(bytes) = replay::open(rt, path)? else {
         return Ok(());

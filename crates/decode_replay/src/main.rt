@@ -1,4 +1,5 @@
-// Replays the fields and immediates that the Rust's decoder was recorded to give (rust/oracle/README.md has the format).
+// Replays the fields and immediates that the Rust's decoder was recorded to give.
+// rust/oracle/README.md has the format.
 #![tactic(auto)]
 
 use isa::decode;

@@ -125,8 +125,8 @@ fn replay_case(file: &mut &[u8]) -> bool {
 // "A64LISTS"
 const MAGIC: u64 = 0x5354_5349_4c34_3641;
 
-// Replays the file's cases and says how many there were and how many differ. A file that goes on after them differs
-// too.
+// Replays the file's cases and says how many there were and how many differ.
+// A file that goes on after them differs too.
 fn replay_file(rt: &(impl Files + Print + Eprint + AllocGlobal), path: &str) -> io::Result<()> {
     let Some(bytes) = replay::open(rt, path)? else {
         return Ok(());

@@ -48,7 +48,8 @@ const CASES: u64 = 0x4553_4143_3436_5652;
 // "RV64RULE"
 const RULES: u64 = 0x454c_5552_3436_5652;
 
-// Replays a file's cases and says how many there were and how many differ. A file that goes on after them differs too.
+// Replays a file's cases and says how many there were and how many differ.
+// A file that goes on after them differs too.
 fn replay_file(
     rt: &(impl Files + Print + Eprint + AllocGlobal),
     path: &str,
