@@ -20,7 +20,9 @@ fn main() {
     let library = match env::var_os("HILOFANUR_LIB") {
         Some(path) => PathBuf::from(path),
         None => {
-            println!("cargo:rerun-if-changed={}", root.join("crates").display());
+            for path in sources(&root) {
+                println!("cargo:rerun-if-changed={}", path.display());
+            }
             make(&root);
             root.join(archive)
         }
@@ -35,6 +37,13 @@ fn main() {
     println!("cargo:rustc-link-lib=static=hilofanur");
     // The header's test links the same library from C.
     println!("cargo:rustc-env=HILOFANUR_LINKED={}", copy.display());
+}
+
+/// What the library is made from. A crate's other folder is rt's own, and each build changes it.
+fn sources(root: &Path) -> Vec<PathBuf> {
+    let crates = fs::read_dir(root.join("crates")).into_iter().flatten().flatten();
+    let parts = crates.flat_map(|it| ["src", "specs", "proofs"].map(|part| it.path().join(part)));
+    [root.join("crates.txt")].into_iter().chain(parts.filter(|it| it.exists())).collect()
 }
 
 fn make(root: &Path) {

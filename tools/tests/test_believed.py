@@ -55,18 +55,18 @@ class Believed(TreeTest):
         self.assertEqual(lines[first + 1], f"     1      5  {WORD}: lonely")
 
     def test_reached_by_proofs(self):
-        self.write("crates/word/proofs/Laws.antt", "use Rattle·word.specs.Word.{lonely}\n")
+        self.write("crates/word/proofs/Laws.antt", "use Rattle.word.specs.Word.{lonely}\n")
         lines = self.report()
         first = lines.index("     1      5  of specs/ are reached by no contract, but by proofs")
         self.assertEqual(lines[first + 1], f"     1      5  {WORD}: lonely")
 
     def test_contract_inside(self):
         self.write("crates/word/src/lib.rt", """\
-ghost use mathlib.Core.Path.{_≡_};
-ghost use Rattle·word·specs.specs.Word.{lonely};
+ghost use Rattle.std.specs.Prelude.{◌≡◌};
+ghost use Rattle.word.specs.Word.{lonely};
 
 pub fn seven() -> u64
-    ensures { λ r. ⌜ r ≡ lonely ⌝ }
+    ensures { result ≡ lonely }
 {
     7
 }
@@ -84,8 +84,8 @@ pub fn seven() -> u64
 
     def test_kit(self):
         lines = self.report()
-        first = lines.index("Names of the kit that the roots reach: 3")
-        self.assertEqual(lines[first + 1:], ["     2 Prim.Native.Nat", "     1 mathlib.Core.Path"])
+        first = lines.index("Names of the kit that the roots reach: 4")
+        self.assertEqual(lines[first + 1:], ["     3 Rattle.std.specs.Prelude", "     1 mathlib.Core.Path"])
 
     def test_name_nowhere(self):
         self.change(LIB, "≡ twice n", "≡ thrice n")
@@ -97,19 +97,31 @@ pub fn seven() -> u64
 
     def test_import_nowhere(self):
         self.change(WORD, "Le.{add}", "Le.{add, sum}")
-        self.reports(f"{WORD}:2: Rattle·le.specs.Le: sum is nowhere")
+        self.reports(f"{WORD}:2: Rattle.le.specs.Le: sum is nowhere")
+
+    def test_crate_nowhere(self):
+        self.change(WORD, "Rattle.le.specs", "Rattle.lee.specs")
+        self.reports(f"{WORD}:2: Rattle.lee.specs.Le: add is nowhere", f"{WORD}:7: add is not resolved")
+
+    def test_clause_of_memory(self):
+        self.change(LIB, "ensures { result.value", "ensures* whole { result.value")
+        self.assertEqual(self.part("  hilofanur_twice")[0], ["3", "10", "hilofanur_twice"])
+
+    def test_clause_that_is_not_read(self):
+        self.change(LIB, "    ensures demand3", "    decreases { n }\n    ensures demand3")
+        self.assertIn(f"{LIB}:18: a clause that is not read", self.run_tool("believed").stderr)
 
     def test_form_that_is_not_read(self):
         self.change(WORD, "abbrev pub lonely", "mutual\n\nabbrev pub lonely")
         self.reports(f"{WORD}:9: `mutual` begins a form that is not read")
 
     def test_no_demand_3(self):
-        self.change(LIB, "    ensures { λ r. ⌜ Demand3 n r ⌝ }\n", "")
+        self.change(LIB, "    ensures demand3 { Demand3 n result }\n", "")
         self.reports(f"{LIB}:1: no clause of an exported function cites Demand3")
 
     def test_only_exported_functions_are_roots(self):
         text = (self.root / LIB).read_text()
-        self.write(LIB, text.replace('#[no_mangle]\npub extern "C" fn hilofanur_twice', "pub fn twice", 1))
+        self.write(LIB, text.replace('#[unsafe(no_mangle)]\npub extern "C" fn hilofanur_twice', "pub fn twice", 1))
         self.assertEqual(self.part("  all roots together")[0], ["2", "7", "all", "roots", "together"])
 
     def test_imports(self):

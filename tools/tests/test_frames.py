@@ -18,6 +18,10 @@ FINISH = ["mov    rdx,r15", "call   39b <hilofanur_translate+0x39b>", "to memcpy
 GO_ON = ["call   3e7 <hilofanur_translate+0x3e7>", "to .text.translator::go_on-0x4"]
 WHOLE = ["mov    edx,0x3c0", "mov    rsi,r14", "call   163 <hilofanur_translate+0x163>", "to memcpy-0x4"]
 PROBED = ["sub    rsp,0x1000", "mov    QWORD PTR [rsp],0x0", "sub    rsp,0xda8"]
+LOOPED = ["mov    r11,rsp", "sub    r11,0x1800", "sub    rsp,0xc00", "mov    QWORD PTR [rsp],0x0", "cmp    rsp,r11",
+          "jne    a <f+0xa>", "sub    rsp,0x6a8"]
+LOOPED_ARM = ["sub\tx9, sp, #0x1, lsl #12", "stp\tx28, x27, [sp, #16]", "sub\tx9, x9, #0x800", "sub\tsp, sp, #0xc00",
+              "cmp\tsp, x9", "str\txzr, [sp]", "b.ne\t24 <f+0x24>  // b.any", "sub\tsp, sp, #0x6a0"]
 FILL = ["ret"] * 8
 
 
@@ -86,6 +90,14 @@ class Frames(unittest.TestCase):
     def test_long_frame_on_aarch64(self):
         self.functions["hilofanur_translate"][1:2] = ["sub\tsp, sp, #0x1, lsl #12", "sub\tsp, sp, #0xd90"]
         self.reports("hilofanur_translate: a frame of 7568 bytes; the long emitter's array has 7448", machine=ARM)
+
+    def test_long_frame_by_a_loop(self):
+        self.functions["hilofanur_translate"][1:2] = LOOPED
+        self.reports("hilofanur_translate: a frame of 7848 bytes; the long emitter's array has 7448")
+
+    def test_long_frame_by_a_loop_on_aarch64(self):
+        self.functions["hilofanur_translate"][1:2] = LOOPED_ARM
+        self.reports("hilofanur_translate: a frame of 7840 bytes; the long emitter's array has 7448", machine=ARM)
 
     def test_go_on_inside(self):
         self.functions["hilofanur_translate"] = ["push   rbp", "sub    rsp,0x478", *FINISH, *FILL]

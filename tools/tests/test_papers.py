@@ -145,7 +145,7 @@ class Papers(TreeTest):
         self.change("crates/word/specs/Word.antt", "= add n n", "= sum n n")
         self.change("crates/word/specs/Word.antt", "Le.{add}", "Le.{sum}")
         ran = self.run_tool("papers")
-        self.assertIn("crates/word/specs/Word.antt:2: Rattle·le.specs.Le: sum is nowhere", ran.stdout)
+        self.assertIn("crates/word/specs/Word.antt:2: Rattle.le.specs.Le: sum is nowhere", ran.stdout)
         self.assertEqual(ran.returncode, 1)
 
     def test_crate_without_a_row(self):

@@ -9,17 +9,17 @@ import unittest
 TOOLS = pathlib.Path(__file__).resolve().parent.parent
 
 FILES = {
-    "crates.txt": "le:\nword: le  # sums\n\ntranslation: word\nhilofanur: word translation\n",
+    "crates.txt": "le:\nword: le  # sums\n\ntranslation: word\nhilofanur staticlib: word translation\n",
     "crates/le/specs/Le.antt": """\
-use Prim.Native.Nat.{ℕ, _+_}
+use Rattle.std.specs.Prelude.{ℕ, ◌+◌}
 
 -- a sum
 abbrev pub add : ℕ → ℕ → ℕ
 add m n = m + n
 """,
     "crates/word/specs/Word.antt": """\
-use Prim.Native.Nat.{ℕ}
-use Rattle·le.specs.Le.{add}
+use Rattle.std.specs.Prelude.{ℕ}
+use Rattle.le.specs.Le.{add}
 
 -- a number
 -- and itself
@@ -35,8 +35,8 @@ lonely = seven
     "crates/word/must-fail/sum-wrong.edit": "file: specs/Word.antt\nold: add n n\nnew: n\n",
     "crates/word/must-fail/sum-lost.edit": "file: specs/Word.antt\nold: add n n\nnew: 0\n",
     "crates/translation/specs/Demand3.antt": """\
-use Prim.Native.Nat.{ℕ}
-use mathlib.Core.Path.{_≡_}
+use Rattle.std.specs.Prelude.{ℕ}
+use mathlib.Core.Path.{◌≡◌}
 
 -- what is left
 pub record Ends (n r : ℕ) : Type 0 where
@@ -49,25 +49,25 @@ abbrev pub Demand3 : ℕ → ℕ → Type 0
 Demand3 n r = Ends n r
 """,
     "crates/hilofanur/src/lib.rt": """\
-ghost use mathlib.Core.Path.{_≡_};
-ghost use Rattle·word.specs.Word.{twice};
-ghost use Rattle·translation.specs.Demand3.{Demand3};
+ghost use Rattle.std.specs.Prelude.{◌≡◌};
+ghost use Rattle.word.specs.Word.{twice};
+ghost use Rattle.translation.specs.Demand3.{Demand3};
 
 pub struct Answer {
     pub value: u64,
 }
 
-#[no_mangle]
+#[unsafe(no_mangle)]
 pub extern "C" fn hilofanur_twice(n: u64) -> Answer
-    ensures { λ r. ⌜ r .value ≡ twice n ⌝ }
+    ensures { result.value ≡ twice n }
 {
     Answer { value: n + n }
 }
 
-#[no_mangle]
+#[unsafe(no_mangle)]
 pub extern "C" fn hilofanur_same(n: u64) -> u64
-    ensures { λ r. ⌜ r ≡ n ⌝ }
-    ensures { λ r. ⌜ Demand3 n r ⌝ }
+    ensures same { result ≡ n }
+    ensures demand3 { Demand3 n result }
 {
     n
 }
