@@ -4,15 +4,24 @@
 use a64_exec::state::A64State;
 use a64_run::run;
 use a64_run::run::Answer;
+use std::io;
+use std::rt::Files;
 
-// Whether the answer is the recorded one: every register, SP, NZCV, every memory byte, end and steps. `x` is as at entry.
-fn answers(fd: i32, answer: Answer, x: &mut [u64], memory: &[u8], after: &mut [u8]) -> bool {
-    replay::read_registers(fd, x);
-    let sp = replay::read_number(fd);
-    let nzcv = replay::read_byte(fd) as u64;
-    io::read_full(fd, after);
-    let end = replay::read_byte(fd) as u32;
-    let steps = replay::read_byte(fd) as u64;
+// Whether the answer is the recorded one: every register, SP, NZCV, every memory byte, end and steps.
+// `x` is as at entry.
+fn answers(
+    file: &mut &[u8],
+    answer: Answer,
+    x: &mut [u64],
+    memory: &[u8],
+    after: &mut [u8],
+) -> bool {
+    replay::read_registers(file, x);
+    let sp = replay::read_number(file);
+    let nzcv = replay::read_byte(file) as u64;
+    replay::read_full(file, after);
+    let end = replay::read_byte(file) as u32;
+    let steps = replay::read_byte(file) as u64;
     let state = answer.state;
     let flags = state.flags;
     replay::same_registers(&state.x, x)
@@ -21,20 +30,20 @@ fn answers(fd: i32, answer: Answer, x: &mut [u64], memory: &[u8], after: &mut [u
         && answer.steps == steps
         && state.sp == sp
         && a64_alu::nzcv_of(flags) == nzcv
-        && check::same(memory, after)
+        && memory == &*after
 }
 
 // Runs the next case, whose words have been read into `block`.
-fn agrees(fd: i32, block: &[u8], memory: &mut [u8], after: &mut [u8]) -> bool {
-    let address = replay::read_number(fd);
-    let budget = replay::read_number(fd);
+fn agrees(file: &mut &[u8], block: &[u8], memory: &mut [u8], after: &mut [u8]) -> bool {
+    let address = replay::read_number(file);
+    let budget = replay::read_number(file);
     let mut x = [0u64; 31];
     replay::unnamed(&mut x);
-    replay::read_registers(fd, &mut x);
-    let sp = replay::read_number(fd);
-    let flags = a64_alu::flags_of(replay::read_byte(fd) as u64);
-    let base = replay::read_number(fd);
-    let size = replay::read_size(fd, 64);
+    replay::read_registers(file, &mut x);
+    let sp = replay::read_number(file);
+    let flags = a64_alu::flags_of(replay::read_byte(file) as u64);
+    let base = replay::read_number(file);
+    let size = replay::read_size(file, 64);
     if memory.len() < size {
         return false;
     }
@@ -43,43 +52,40 @@ fn agrees(fd: i32, block: &[u8], memory: &mut [u8], after: &mut [u8]) -> bool {
     }
     let memory = &mut memory[..size];
     let after = &mut after[..size];
-    io::read_full(fd, memory);
-    let state = A64State {
-        x: x,
-        sp: sp,
-        flags: flags,
-    };
+    replay::read_full(file, memory);
+    let state = A64State { x, sp, flags };
     let answer = run::a64_run(block, address, state, budget, memory, base);
-    answers(fd, answer, &mut x, memory, after)
+    answers(file, answer, &mut x, memory, after)
 }
 
-fn replay_case(fd: i32) -> bool {
+fn replay_case(file: &mut &[u8]) -> bool {
     let mut block = [0u8; 256];
     let mut memory = [0u8; 64];
     let mut after = [0u8; 64];
-    let size = replay::read_size(fd, 64) * 4;
+    let size = replay::read_size(file, 64) * 4;
     let words = &mut block[..size];
-    io::read_full(fd, words);
-    agrees(fd, words, &mut memory, &mut after)
+    replay::read_full(file, words);
+    agrees(file, words, &mut memory, &mut after)
 }
 
 // "A64CASES"
 const MAGIC: u64 = 0x5345_5341_4334_3641;
 
-// Replays a file's cases and says how many there were and how many differ. A file that goes on after them differs too.
-fn replay_file(path: &[u8]) {
-    let fd = replay::open(path);
-    if fd < 0 {
-        return;
-    }
-    let mut tally = replay::read_header(fd, MAGIC);
+// Replays a file's cases and says how many there were and how many differ.
+// A file that goes on after them differs too.
+fn replay_file(rt: &(impl Files + Print + Eprint + AllocGlobal), path: &str) -> io::Result<()> {
+    let Some(bytes) = replay::open(rt, path)? else {
+        return Ok(());
+    };
+    let mut file = bytes.as_slice();
+    let mut tally = replay::read_header(&mut file, MAGIC);
     while tally.left > 0 {
-        tally = replay::counted(tally, replay::outcome_of(replay_case(fd)));
+        tally = replay::counted(tally, replay::outcome_of(replay_case(&mut file)));
     }
-    replay::report(fd, tally, b" cases, ");
+    replay::report(rt, file, tally, " cases, ")
 }
 
-fn main() {
-    replay_file(b"a64.bin");
-    replay_file(b"a64_rules.bin");
+fn main(rt: HostRuntime) -> io::Result<()> {
+    replay_file(&rt, "a64.bin")?;
+    replay_file(&rt, "a64_rules.bin")
 }

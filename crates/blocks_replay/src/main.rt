@@ -3,7 +3,8 @@
 #![tactic(auto)]
 
 use emit_native::Host;
-use libc::STDOUT_FILENO;
+use std::io;
+use std::rt::Files;
 use translator::Answer;
 
 // Translates as the case says; `asked` is what the file has between the guest bytes and the answer.
@@ -36,12 +37,19 @@ fn same_answer(answer: Answer, found: &[u8; 5]) -> bool {
         && answer.length == 4 * (le::load16(found, 3) as u32)
 }
 
-// Compares refusal, end kind, count, length and every byte of the output. `output` and `expected` come with the same
-// bytes, and the recorded words go to the front of `expected`: the bytes after them, and all under a refusal, must stay.
-fn agrees(fd: i32, guest: &[u8], asked: &[u8; 49], output: &mut [u8], expected: &mut [u8]) -> bool {
+// Compares refusal, end kind, count, length and every byte of the output.
+// `output` and `expected` come with the same bytes, and the recorded words go to the front of `expected`.
+// So the bytes after them, and all under a refusal, must stay.
+fn agrees(
+    file: &mut &[u8],
+    guest: &[u8],
+    asked: &[u8; 49],
+    output: &mut [u8],
+    expected: &mut [u8],
+) -> bool {
     let answer = ask(guest, asked, output);
     let mut found = [0u8; 5];
-    if io::read_full(fd, &mut found) < 5 {
+    if replay::read_full(file, &mut found) < 5 {
         return false;
     }
     let length = 4 * (le::load16(&found, 3) as usize);
@@ -49,14 +57,15 @@ fn agrees(fd: i32, guest: &[u8], asked: &[u8; 49], output: &mut [u8], expected: 
         return false;
     }
     let words = &mut expected[..length];
-    let whole = io::read_full(fd, words) == length;
-    whole && same_answer(answer, &found) && check::same(output, expected)
+    let whole = replay::read_full(file, words) == length;
+    whole && same_answer(answer, &found) && &*output == &*expected
 }
 
-// The output is as long as the case says. The files offer 7,704 bytes at most; more than 8,192 would count as differing.
-fn replay_question(fd: i32, guest: &[u8]) -> bool {
+// The output is as long as the case says.
+// The files offer 7,704 bytes at most; more than 8,192 would count as differing.
+fn replay_question(file: &mut &[u8], guest: &[u8]) -> bool {
     let mut asked = [0u8; 49];
-    if io::read_full(fd, &mut asked) < 49 {
+    if replay::read_full(file, &mut asked) < 49 {
         return false;
     }
     let room = le::load32(&asked, 45) as usize;
@@ -66,7 +75,7 @@ fn replay_question(fd: i32, guest: &[u8]) -> bool {
     let mut output = [0xA5u8; 8192];
     let mut expected = [0xA5u8; 8192];
     agrees(
-        fd,
+        file,
         guest,
         &asked,
         &mut output[..room],
@@ -75,9 +84,9 @@ fn replay_question(fd: i32, guest: &[u8]) -> bool {
 }
 
 // Whether the next case is as recorded; a file that ends within it is not.
-fn replay_case(fd: i32) -> bool {
+fn replay_case(file: &mut &[u8]) -> bool {
     let mut size = [0u8; 2];
-    if io::read_full(fd, &mut size) < 2 {
+    if replay::read_full(file, &mut size) < 2 {
         return false;
     }
     let n = le::load16(&size, 0) as usize;
@@ -86,33 +95,32 @@ fn replay_case(fd: i32) -> bool {
     }
     let mut bytes = [0u8; 256];
     let guest = &mut bytes[..n];
-    if io::read_full(fd, guest) < n {
+    if replay::read_full(file, guest) < n {
         return false;
     }
-    replay_question(fd, guest)
+    replay_question(file, guest)
 }
 
 // "A64BLOCK"
 const MAGIC: u64 = 0x4b43_4f4c_4234_3641;
 
-// Replays a file's cases and says how many there were and how many differ, and whether the file goes on after them. The
-// seed after the header is not used.
-fn replay_file(path: &[u8]) {
-    let fd = replay::open(path);
-    if fd < 0 {
-        return;
-    }
-    let mut tally = replay::read_header(fd, MAGIC);
-    replay::read_number(fd);
+// Replays a file's cases and says how many there were and how many differ, and whether the file goes on after them.
+// The seed after the header is not used.
+fn replay_file(rt: &(impl Files + Print + Eprint + AllocGlobal), path: &str) -> io::Result<()> {
+    let Some(bytes) = replay::open(rt, path)? else {
+        return Ok(());
+    };
+    let mut file = bytes.as_slice();
+    let mut tally = replay::read_header(&mut file, MAGIC);
+    replay::read_number(&mut file);
     while tally.left > 0 {
-        tally = replay::counted(tally, replay::outcome_of(replay_case(fd)));
+        tally = replay::counted(tally, replay::outcome_of(replay_case(&mut file)));
     }
-    io::write_all(STDOUT_FILENO, path);
-    io::write_all(STDOUT_FILENO, b": ");
-    replay::report(fd, tally, b" cases, ");
+    print!(rt; "{path}: ")?;
+    replay::report(rt, file, tally, " cases, ")
 }
 
-fn main() {
-    replay_file(b"marked.bin");
-    replay_file(b"blocks.bin");
+fn main(rt: HostRuntime) -> io::Result<()> {
+    replay_file(&rt, "marked.bin")?;
+    replay_file(&rt, "blocks.bin")
 }

@@ -1,8 +1,11 @@
-// Replays the fields and immediates that the Rust's decoder was recorded to give (rust/oracle/README.md has the format).
+// Replays the fields and immediates that the Rust's decoder was recorded to give.
+// rust/oracle/README.md has the format.
 #![tactic(auto)]
 
 use isa::decode;
 use replay::Outcome;
+use std::io;
+use std::rt::Files;
 
 fn byte(record: &[u8], at: usize) -> u8 {
     if at < record.len() { record[at] } else { 0 }
@@ -37,46 +40,50 @@ fn compressed_agree(record: &[u8], instr: u16) -> bool {
         && decode::shamt_c(instr) == replay::number_at(record, 42)
 }
 
-fn replay_word(fd: i32) -> Outcome {
+fn replay_word(file: &mut &[u8]) -> Outcome {
     let mut record = [0u8; 54];
-    if io::read_full(fd, &mut record) < 54 {
+    if replay::read_full(file, &mut record) < 54 {
         return Outcome::End;
     }
     let instr = (replay::number_at(&record, 0) % 0x1_0000_0000) as u32;
     replay::outcome_of(fields_agree(&record, instr) && immediates_agree(&record, instr))
 }
 
-fn replay_halfword(fd: i32) -> Outcome {
+fn replay_halfword(file: &mut &[u8]) -> Outcome {
     let mut record = [0u8; 50];
-    if io::read_full(fd, &mut record) < 50 {
+    if replay::read_full(file, &mut record) < 50 {
         return Outcome::End;
     }
     let instr = (replay::number_at(&record, 0) % 65536) as u16;
     replay::outcome_of(compressed_agree(&record, instr))
 }
 
-fn replay_record(fd: i32, is_word: bool) -> Outcome {
+fn replay_record(file: &mut &[u8], is_word: bool) -> Outcome {
     if is_word {
-        replay_word(fd)
+        replay_word(file)
     } else {
-        replay_halfword(fd)
+        replay_halfword(file)
     }
 }
 
 // Replays a file's records and says how many there were and how many differ.
-fn replay_file(path: &[u8], is_word: bool) {
-    let fd = replay::open(path);
-    if fd < 0 {
-        return;
-    }
+fn replay_file(
+    rt: &(impl Files + Print + Eprint + AllocGlobal),
+    path: &str,
+    is_word: bool,
+) -> io::Result<()> {
+    let Some(bytes) = replay::open(rt, path)? else {
+        return Ok(());
+    };
+    let mut file = bytes.as_slice();
     let mut tally = replay::tally_of(u32::MAX);
     while tally.left > 0 {
-        tally = replay::counted(tally, replay_record(fd, is_word));
+        tally = replay::counted(tally, replay_record(&mut file, is_word));
     }
-    replay::report(fd, tally, b" records, ");
+    replay::report(rt, file, tally, " records, ")
 }
 
-fn main() {
-    replay_file(b"decode.bin", true);
-    replay_file(b"compressed.bin", false);
+fn main(rt: HostRuntime) -> io::Result<()> {
+    replay_file(&rt, "decode.bin", true)?;
+    replay_file(&rt, "compressed.bin", false)
 }

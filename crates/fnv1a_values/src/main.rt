@@ -1,28 +1,28 @@
-// The hashes of texts whose FNV-1a of 32 bits is published (test_fnv.c of the FNV reference code by Noll); `stdout` has the values printed there.
+// The hashes of texts whose FNV-1a of 32 bits is published (test_fnv.c of the FNV reference code by Noll).
+// `stdout` has the values printed there.
 #![tactic(auto)]
 
-use libc::STDOUT_FILENO;
+use std::io;
 
-fn print_hash(text: &[u8]) {
-    io::print_hex(STDOUT_FILENO, fnv1a::fnv1a(text) as u64, 8);
-    io::write_all(STDOUT_FILENO, b"\n");
+fn print_hash(rt: &impl Print, text: &[u8]) -> io::Result<()> {
+    println!(rt; "{:08x}", fnv1a::fnv1a(text))
 }
 
-fn main() {
-    print_hash(b"");
-    print_hash(b"a");
-    print_hash(b"b");
-    print_hash(b"c");
-    print_hash(b"d");
-    print_hash(b"e");
-    print_hash(b"f");
-    print_hash(b"fo");
-    print_hash(b"foo");
-    print_hash(b"foob");
-    print_hash(b"fooba");
-    print_hash(b"foobar");
-    print_hash(b"\0");
-    print_hash(b"a\0");
-    print_hash(b"foobar\0");
-    print_hash(b"chongo was here!\n");
+fn main(rt: HostRuntime) -> io::Result<()> {
+    print_hash(&rt, b"")?;
+    print_hash(&rt, b"a")?;
+    print_hash(&rt, b"b")?;
+    print_hash(&rt, b"c")?;
+    print_hash(&rt, b"d")?;
+    print_hash(&rt, b"e")?;
+    print_hash(&rt, b"f")?;
+    print_hash(&rt, b"fo")?;
+    print_hash(&rt, b"foo")?;
+    print_hash(&rt, b"foob")?;
+    print_hash(&rt, b"fooba")?;
+    print_hash(&rt, b"foobar")?;
+    print_hash(&rt, b"\0")?;
+    print_hash(&rt, b"a\0")?;
+    print_hash(&rt, b"foobar\0")?;
+    print_hash(&rt, b"chongo was here!\n")
 }

@@ -1,44 +1,46 @@
 // Document 02's listing: List on what standard input holds.
 #![tactic(auto)]
 
-use libc::{STDIN_FILENO, STDOUT_FILENO};
 use listing::Listed;
 use rules::refusals;
+use std::io;
+use std::io::{Read, Write};
 
 // How many bytes a block can have here.
 const MOST: usize = 65536;
 
+// How many bytes its lines can have.
+const ROOM: usize = MOST / 4 * rules::LONGEST_LINE;
+
 // The number; beside 13 the offset too, as in a line.
-fn print_refusal(answer: Listed) {
-    io::write_all(STDOUT_FILENO, b"refused ");
-    io::print_decimal(STDOUT_FILENO, answer.refusal);
-    if answer.refusal == refusals::OUTSIDE_FORMS as u64 {
-        io::write_all(STDOUT_FILENO, b" ");
-        io::print_hex(STDOUT_FILENO, answer.offset, 8);
+fn print_refusal(rt: &impl Print, answer: &Listed) -> io::Result<()> {
+    let number = answer.refusal;
+    if number == refusals::OUTSIDE_FORMS as u64 {
+        println!(rt; "refused {number} {:08x}", answer.offset)
+    } else {
+        println!(rt; "refused {number}")
     }
-    io::write_all(STDOUT_FILENO, b"\n");
 }
 
 // The lines, by way of the output; or the refusal.
-fn print_listing(block: &[u8], output: &mut [u8]) {
+fn print_listing(rt: &impl Print, block: &[u8], output: &mut [u8]) -> io::Result<()> {
     let answer = listing::list(block, output);
     if answer.refusal != 0 {
-        print_refusal(answer);
-        return;
+        return print_refusal(rt, &answer);
     }
     let length = answer.length as usize;
     if length <= output.len() {
-        io::write_all(STDOUT_FILENO, &output[..length]);
+        io::writer(rt).write_all(&output[..length])?;
     }
+    Ok(())
 }
 
-fn main() {
-    let mut input = [0u8; MOST + 1];
-    let n = io::read_full(STDIN_FILENO, &mut input);
-    if n > MOST {
-        io::write_all(STDOUT_FILENO, b"long input\n");
-        return;
+fn main(rt: HostRuntime) -> io::Result<()> {
+    let mut block = Vec::new(rt.alloc());
+    rt.stdin().take(MOST as u64 + 1).read_to_end(&mut block)?;
+    if block.len() > MOST {
+        return println!(rt; "long input");
     }
-    let mut output = [0u8; MOST / 4 * rules::LONGEST_LINE];
-    print_listing(&input[..n], &mut output);
+    let mut output = vec![in rt.alloc(); 0u8; ROOM]?;
+    print_listing(&rt, &block, &mut output)
 }

@@ -2,6 +2,8 @@
 #![tactic(auto)]
 
 use listing::Listed;
+use std::io;
+use std::rt::Files;
 
 // Every byte of an output before List; no line has it.
 const FILL: u8 = 0xA5;
@@ -16,23 +18,23 @@ const SHORT: u64 = 14;
 
 fn answer_of(refusal: u64, length: u64, offset: u64) -> Listed {
     Listed {
-        refusal: refusal,
-        length: length,
-        offset: offset,
+        refusal,
+        length,
+        offset,
     }
 }
 
 // Whether List gives this answer, and leaves the expected bytes.
-fn lists(block: &[u8], answer: Listed, output: &mut [u8], expected: &[u8]) -> bool {
+fn lists(block: &[u8], answer: &Listed, output: &mut [u8], expected: &[u8]) -> bool {
     let found = listing::list(block, output);
     found.refusal == answer.refusal
         && found.length == answer.length
         && found.offset == answer.offset
-        && check::same(output, expected)
+        && &*output == expected
 }
 
 // The output has as many bytes as are expected.
-fn agrees(block: &[u8], answer: Listed, expected: &[u8]) -> bool {
+fn agrees(block: &[u8], answer: &Listed, expected: &[u8]) -> bool {
     let room = expected.len();
     if room > ROOM {
         return false;
@@ -50,16 +52,16 @@ fn short(block: &[u8], length: usize) -> bool {
         return false;
     }
     let untouched = [FILL; ROOM];
-    agrees(block, answer_of(SHORT, 0, 0), &untouched[..length - 1])
+    agrees(block, &answer_of(SHORT, 0, 0), &untouched[..length - 1])
 }
 
 // Reads the recorded lines to the front of `expected`, and says whether the file has them all.
-fn read_lines(fd: i32, expected: &mut [u8], length: usize) -> bool {
+fn read_lines(file: &mut &[u8], expected: &mut [u8], length: usize) -> bool {
     if length > expected.len() {
         return false;
     }
     let lines = &mut expected[..length];
-    io::read_full(fd, lines) == length
+    replay::read_full(file, lines) == length
 }
 
 // The lines, before bytes that must stay. The output has many bytes more than the lines, as many, and one less.
@@ -69,14 +71,14 @@ fn accepted(block: &[u8], expected: &[u8], length: usize) -> bool {
     }
     let lines = &expected[..length];
     let answer = answer_of(0, length as u64, 0);
-    agrees(block, answer, expected) && agrees(block, answer, lines) && short(block, length)
+    agrees(block, &answer, expected) && agrees(block, &answer, lines) && short(block, length)
 }
 
 // No byte changes, also where the output has none.
 fn refused(block: &[u8], refusal: u64, offset: u64) -> bool {
     let untouched = [FILL; ROOM];
     let answer = answer_of(refusal, 0, offset);
-    agrees(block, answer, &untouched) && agrees(block, answer, &untouched[..0])
+    agrees(block, &answer, &untouched) && agrees(block, &answer, &untouched[..0])
 }
 
 fn wide(b: u8) -> u64 {
@@ -84,9 +86,9 @@ fn wide(b: u8) -> u64 {
 }
 
 // Compares what List answers with what the file has after the block.
-fn replay_block(fd: i32, block: &[u8]) -> bool {
+fn replay_block(file: &mut &[u8], block: &[u8]) -> bool {
     let mut found = [0u8; 7];
-    if io::read_full(fd, &mut found) < 7 {
+    if replay::read_full(file, &mut found) < 7 {
         return false;
     }
     let refusal = wide(found[0]);
@@ -96,16 +98,16 @@ fn replay_block(fd: i32, block: &[u8]) -> bool {
         return length == 0 && refused(block, refusal, offset);
     }
     let mut expected = [FILL; ROOM];
-    if !read_lines(fd, &mut expected, length) {
+    if !read_lines(file, &mut expected, length) {
         return false;
     }
     offset == 0 && accepted(block, &expected, length)
 }
 
 // Whether the next case is as recorded; a file that ends within it is not.
-fn replay_case(fd: i32) -> bool {
+fn replay_case(file: &mut &[u8]) -> bool {
     let mut size = [0u8; 2];
-    if io::read_full(fd, &mut size) < 2 {
+    if replay::read_full(file, &mut size) < 2 {
         return false;
     }
     let n = le::load16(&size, 0) as usize;
@@ -114,25 +116,29 @@ fn replay_case(fd: i32) -> bool {
     }
     let mut bytes = [0u8; MOST];
     let block = &mut bytes[..n];
-    if io::read_full(fd, block) < n {
+    if replay::read_full(file, block) < n {
         return false;
     }
-    replay_block(fd, block)
+    replay_block(file, block)
 }
 
 // "A64LISTS"
 const MAGIC: u64 = 0x5354_5349_4c34_3641;
 
-// Replays the file's cases and says how many there were and how many differ. A file that goes on after them differs
-// too.
-fn main() {
-    let fd = replay::open(b"lists.bin");
-    if fd < 0 {
-        return;
-    }
-    let mut tally = replay::read_header(fd, MAGIC);
+// Replays the file's cases and says how many there were and how many differ.
+// A file that goes on after them differs too.
+fn replay_file(rt: &(impl Files + Print + Eprint + AllocGlobal), path: &str) -> io::Result<()> {
+    let Some(bytes) = replay::open(rt, path)? else {
+        return Ok(());
+    };
+    let mut file = bytes.as_slice();
+    let mut tally = replay::read_header(&mut file, MAGIC);
     while tally.left > 0 {
-        tally = replay::counted(tally, replay::outcome_of(replay_case(fd)));
+        tally = replay::counted(tally, replay::outcome_of(replay_case(&mut file)));
     }
-    replay::report(fd, tally, b" cases, ");
+    replay::report(rt, file, tally, " cases, ")
+}
+
+fn main(rt: HostRuntime) -> io::Result<()> {
+    replay_file(&rt, "lists.bin")
 }

@@ -4,6 +4,8 @@
 ghost use Rattle.std.specs.Prelude.{◌<◌};
 
 use replay::Outcome;
+use std::io;
+use std::rt::Files;
 
 fn wide(b: u8) -> usize
     ensures { result < 256 }
@@ -12,48 +14,52 @@ fn wide(b: u8) -> usize
 }
 
 // Places the code as the record has it, and compares the answer and every byte of the store.
-fn agrees(fd: i32, store: &mut [u8], code: &mut [u8], after: &mut [u8]) -> bool {
-    io::read_full(fd, store);
-    let used = replay::read_number(fd);
-    let len = wide(replay::read_byte(fd));
+fn agrees(file: &mut &[u8], store: &mut [u8], code: &mut [u8], after: &mut [u8]) -> bool {
+    replay::read_full(file, store);
+    let used = replay::read_number(file);
+    let len = wide(replay::read_byte(file));
     if code.len() < len {
         return false;
     }
     let code = &mut code[..len];
-    io::read_full(fd, code);
+    replay::read_full(file, code);
     let placed = code_cache::place(store, used, code);
-    let refusal = replay::read_byte(fd) as u64;
-    let start = replay::read_number(fd);
-    let used = replay::read_number(fd);
-    let whole = io::read_full(fd, after) == after.len();
+    let refusal = replay::read_byte(file) as u64;
+    let start = replay::read_number(file);
+    let used = replay::read_number(file);
+    let whole = replay::read_full(file, after) == after.len();
     whole
         && placed.refusal == refusal
         && placed.start == start
         && placed.used == used
-        && check::same(store, after)
+        && &*store == &*after
 }
 
-fn replay_case(fd: i32) -> Outcome {
+fn replay_case(file: &mut &[u8]) -> Outcome {
     let mut size = [0u8; 1];
-    if io::read_full(fd, &mut size) < 1 {
+    if replay::read_full(file, &mut size) < 1 {
         return Outcome::End;
     }
     let n = wide(size[0]);
     let mut store = [0u8; 256];
     let mut code = [0u8; 256];
     let mut after = [0u8; 256];
-    replay::outcome_of(agrees(fd, &mut store[..n], &mut code, &mut after[..n]))
+    replay::outcome_of(agrees(file, &mut store[..n], &mut code, &mut after[..n]))
 }
 
 // Replays the file's cases and says how many there were and how many differ.
-fn main() {
-    let fd = replay::open(b"place.bin");
-    if fd < 0 {
-        return;
-    }
+fn replay_file(rt: &(impl Files + Print + Eprint + AllocGlobal), path: &str) -> io::Result<()> {
+    let Some(bytes) = replay::open(rt, path)? else {
+        return Ok(());
+    };
+    let mut file = bytes.as_slice();
     let mut tally = replay::tally_of(u32::MAX);
     while tally.left > 0 {
-        tally = replay::counted(tally, replay_case(fd));
+        tally = replay::counted(tally, replay_case(&mut file));
     }
-    replay::report(fd, tally, b" cases, ");
+    replay::report(rt, file, tally, " cases, ")
+}
+
+fn main(rt: HostRuntime) -> io::Result<()> {
+    replay_file(&rt, "place.bin")
 }

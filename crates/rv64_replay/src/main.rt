@@ -3,27 +3,29 @@
 
 use rv64_run::run;
 use rv64_run::run::Hart;
+use std::io;
+use std::rt::Files;
 
 // A field that only the rules' cases have; 0 in the others.
-fn read_rule(fd: i32, rules: bool) -> u8 {
-    if rules { replay::read_byte(fd) } else { 0 }
+fn read_rule(file: &mut &[u8], rules: bool) -> u8 {
+    if rules { replay::read_byte(file) } else { 0 }
 }
 
 // Runs the next case, whose guest bytes have been read, and compares every register, the next PC, the count and the
 // refusal.
-fn agrees(fd: i32, rules: bool, guest: &[u8]) -> bool {
-    let pc = replay::read_number(fd);
-    let limit = replay::read_byte(fd) as u32;
-    let ignore_ebreak = read_rule(fd, rules) != 0;
+fn agrees(file: &mut &[u8], rules: bool, guest: &[u8]) -> bool {
+    let pc = replay::read_number(file);
+    let limit = replay::read_byte(file) as u32;
+    let ignore_ebreak = read_rule(file, rules) != 0;
     let mut x = [0u64; 32];
     replay::unnamed(&mut x);
-    replay::read_registers(fd, &mut x);
-    let hart = Hart { x: x, pc: pc };
+    replay::read_registers(file, &mut x);
+    let hart = Hart { x, pc };
     let answer = run::rv64_run(guest, hart, limit, ignore_ebreak);
-    replay::read_registers(fd, &mut x);
-    let next_pc = replay::read_number(fd);
-    let count = replay::read_byte(fd) as u32;
-    let expected = read_rule(fd, rules) as u32;
+    replay::read_registers(file, &mut x);
+    let next_pc = replay::read_number(file);
+    let count = replay::read_byte(file) as u32;
+    let expected = read_rule(file, rules) as u32;
     let after = answer.hart;
     let refusal = answer.refusal;
     replay::same_registers(&after.x, &x)
@@ -32,12 +34,12 @@ fn agrees(fd: i32, rules: bool, guest: &[u8]) -> bool {
         && answer.count == count
 }
 
-fn replay_case(fd: i32, rules: bool) -> bool {
+fn replay_case(file: &mut &[u8], rules: bool) -> bool {
     let mut bytes = [0u8; 64];
-    let size = replay::read_size(fd, 64);
+    let size = replay::read_size(file, 64);
     let guest = &mut bytes[..size];
-    io::read_full(fd, guest);
-    agrees(fd, rules, guest)
+    replay::read_full(file, guest);
+    agrees(file, rules, guest)
 }
 
 // "RV64CASE"
@@ -46,20 +48,26 @@ const CASES: u64 = 0x4553_4143_3436_5652;
 // "RV64RULE"
 const RULES: u64 = 0x454c_5552_3436_5652;
 
-// Replays a file's cases and says how many there were and how many differ. A file that goes on after them differs too.
-fn replay_file(path: &[u8], magic: u64, rules: bool) {
-    let fd = replay::open(path);
-    if fd < 0 {
-        return;
-    }
-    let mut tally = replay::read_header(fd, magic);
+// Replays a file's cases and says how many there were and how many differ.
+// A file that goes on after them differs too.
+fn replay_file(
+    rt: &(impl Files + Print + Eprint + AllocGlobal),
+    path: &str,
+    magic: u64,
+    rules: bool,
+) -> io::Result<()> {
+    let Some(bytes) = replay::open(rt, path)? else {
+        return Ok(());
+    };
+    let mut file = bytes.as_slice();
+    let mut tally = replay::read_header(&mut file, magic);
     while tally.left > 0 {
-        tally = replay::counted(tally, replay::outcome_of(replay_case(fd, rules)));
+        tally = replay::counted(tally, replay::outcome_of(replay_case(&mut file, rules)));
     }
-    replay::report(fd, tally, b" cases, ");
+    replay::report(rt, file, tally, " cases, ")
 }
 
-fn main() {
-    replay_file(b"rv64.bin", CASES, false);
-    replay_file(b"rv64_rules.bin", RULES, true);
+fn main(rt: HostRuntime) -> io::Result<()> {
+    replay_file(&rt, "rv64.bin", CASES, false)?;
+    replay_file(&rt, "rv64_rules.bin", RULES, true)
 }

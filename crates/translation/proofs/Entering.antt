@@ -53,10 +53,10 @@ to_return ws s t g address budget hl =
 
 -- ---- slots
 
-get_d_past : (l : List ℕ) (i : ℕ) → length l ≤ i → get_or l i 0 ≡ 0
-get_d_past [] i h = refl
-get_d_past (y ∷ l) zero h = absurd (not-suc-le-zero h)
-get_d_past (y ∷ l) (suc i) h = get_d_past l i (le_of_suc-le-suc h)
+get_or-past : (l : List ℕ) (i : ℕ) → length l ≤ i → get_or l i 0 ≡ 0
+get_or-past [] i h = refl
+get_or-past (y ∷ l) zero h = absurd (not-suc-le-zero h)
+get_or-past (y ∷ l) (suc i) h = get_or-past l i (le_of_suc-le-suc h)
 
 slots_differ : (r o n k : ℕ) → n < 32 → k < 32 → wrap (r + (o + 8 * n)) ≡ wrap (r + (o + 8 * k)) → n ≡ k
 slots_differ r o n k hn hk e =
@@ -106,7 +106,7 @@ module _ (o : ℕ) (s : State) (x : List ℕ) (ε : Entry o s x) where
   small : (i : ℕ) (c : Bool) → ltb i 32 ≡ c → get_or (set x 0 0) i 0 < 2 ^ 64
   small zero c q = rw (get_or-set_same x 0 0 0 (omega (arith, ε.guest))) (omega arith)
   small (suc i) true q = rw (same (suc i) (omega arith), ε.starts (suc i) (omega arith) (ltb-true (suc i) 32 q)) (load_lt 8 s.mem (place s o (suc i)) ε.bytes)
-  small (suc i) false q = rw (same (suc i) (omega arith), get_d_past x (suc i) (omega (arith, ε.guest, ltb-false (suc i) 32 q))) (omega arith)
+  small (suc i) false q = rw (same (suc i) (omega arith), get_or-past x (suc i) (omega (arith, ε.guest, ltb-false (suc i) 32 q))) (omega arith)
 
   count : length (set x 0 0) ≡ 32
   count = length-set x 0 0 ∙ ε.guest

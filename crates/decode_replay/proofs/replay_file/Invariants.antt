@@ -1,0 +1,4 @@
+use Rattle.decode_replay.proofs.replay_file.Given as goal
+
+abbrev pub decreases-loop-tally : goal.decreases-loop-tally
+decreases-loop-tally g l = l.tally.left
