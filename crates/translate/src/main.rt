@@ -20,15 +20,20 @@ fn print_words(rt: &impl Print, block: &[u8]) -> io::Result<()> {
     Ok(())
 }
 
+fn print_line(rt: &impl Print, number: u32) -> io::Result<()> {
+    println!(rt; "{number}")
+}
+
 fn print_answer(rt: &impl Print, answer: &Answer, output: &[u8]) -> io::Result<()> {
     if answer.refusal != 0 {
-        return println!(rt; "refused {}", answer.refusal);
+        print!(rt; "refused ")?;
+        return print_line(rt, answer.refusal);
     }
     let length = answer.length as usize;
     if length <= output.len() {
         print_words(rt, &output[..length])?;
     }
-    println!(rt; "{}", answer.count)
+    print_line(rt, answer.count)
 }
 
 // PC (8 bytes), limit (4), flag (1), then the guest bytes, of which at most 256 are read.
