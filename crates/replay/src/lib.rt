@@ -45,15 +45,16 @@ pub fn read_full(file: &mut &[u8], buf: &mut [u8]) -> usize
     file.read(buf).unwrap()
 }
 
-// The number of a record at a place; 0 where the record ends before it.
-pub fn number_at(bytes: &[u8], at: usize) -> u64
-    ensures inside { at + 8 ≤ length bytes.now → result ≡ load 8 bytes.now at }
-    ensures outside { length bytes.now < at + 8 → result ≡ 0 }
+// A number of a record; 0 where the record ends before it.
+pub fn number_at(record: &[u8], at: usize) -> u64
+    ensures inside { at < 4096 → at + 8 ≤ length record.now → result ≡ load 8 record.now at }
+    ensures outside { length record.now < at + 8 → result ≡ 0 }
+    ensures beyond { 4096 ≤ at → result ≡ 0 }
 {
-    if bytes.len() < 8 || bytes.len() - 8 < at {
-        return 0;
+    if at < 4096 && at + 8 <= record.len() {
+        return le::load64(record, at);
     }
-    le::load64(bytes, at)
+    0
 }
 
 pub fn read_number(file: &mut &[u8]) -> u64
