@@ -13,7 +13,9 @@ ghost use Rattle.jit_arm64.specs.Parts.{Narrow, Compiled, Walking, Onward, Partl
 use crate::fetch::fetch;
 use a64_emitter::{A64Emitter, InstrEmitter, ShortEmitter};
 use emit_native::{EmitFlow, Emitted, Host};
-use rules::{END_WORDS, INLINE_WORDS, INSTR_WORDS, MAX_INSTRS, MAX_WORDS, SHORT_WORDS};
+use rules::{
+    END_WORDS, INLINE_WORDS, INSTR_WORDS, MAX_INSTRS, MAX_WORDS, SHORT_INSTRS, SHORT_WORDS,
+};
 
 // Why the walk over the guest code stopped.
 #[derive(Clone, Copy)]
@@ -349,7 +351,8 @@ pub fn continue_native_block(
     ensures { LongOf host guest.now start most result }
 {
     let mut long = A64Emitter::new();
-    move_long(&mut long.words, before, from.len);
+    // as many as there can be: a test of their number would bring a copy of the long emitter
+    move_long(&mut long.words, before, SHORT_INSTRS * INLINE_WORDS);
     let done = walk_long(&mut long.words, guest, start, from, most, host);
     long.len = done.len;
     let stop = done.stop;

@@ -108,9 +108,8 @@ fn room_of(walked: Walked, room: usize) -> usize
     room
 }
 
-// A block that is longer than the short emitter. `translate` calls this in two places, so that it stays a function of
-// its own: the long emitter is no part of the frame of `translate`.
-fn go_on(
+// A block that is longer than the short emitter.
+fn go_on_long(
     before: &[u32; SHORT_WORDS],
     from: Walked,
     guest: &[u8],
@@ -127,6 +126,24 @@ fn go_on(
     let em = found.em;
     let length = em.finish(output);
     answer_for(done, length, output.len())
+}
+
+// The same. `translate` calls this in two places, so that it stays a function of its own: the long emitter is no part of
+// the frame of `translate`. The compiler takes the one above into it and looks for copies once more, and leaves none of an
+// emitter.
+fn go_on(
+    before: &[u32; SHORT_WORDS],
+    from: Walked,
+    guest: &[u8],
+    pc: u64,
+    most: u32,
+    host: Host,
+    output: &mut [u8],
+) -> Answer
+    requires { (length before.now ≡ short_words) × (T.bad_slot_offset host.slot_offset ≡ false) × (most ≤ max_instrs) × Partly host guest.now pc most before.now from }
+    ensures { (limit : ℕ) → most ≡ min limit max_instrs → T.result result output.new ≡ T.translate host guest.now pc limit output.old }
+{
+    go_on_long(before, from, guest, pc, most, host, output)
 }
 
 // Operation Translate of document 01.

@@ -3,7 +3,7 @@ use native.Mathlib.Omega.{arith}
 use Rattle.rules.specs.Limits.{max_words}
 use Rattle.a64_emitter.specs.Parts.{block_words}
 use Rattle.translator.proofs.Translating.{answered, clamped-block, few_bytes}
-use Rattle.translator.proofs.go_on.Goals as goal
+use Rattle.translator.proofs.go_on_long.Goals as goal
 
 pub answer_for-requires : goal.answer_for-requires
 unfolding block_words
