@@ -1,5 +1,6 @@
 -- The refusals by number, document 01's and those of its requests: the one table. The definitions and the code name them; tools/numbers holds the header and the crate to it.
 use Rattle.std.specs.Prelude.{ℕ}
+use Rattle.rules.specs.declared.refusals.Refusal.{Refusal}
 
 abbrev pub accepted : ℕ
 accepted = 0
@@ -65,3 +66,21 @@ code_length = 15
 -- no block under this key
 abbrev pub no_block : ℕ
 no_block = 16
+
+-- of a refusal of the code
+abbrev pub number : Refusal → ℕ
+number Refusal.SlotOffset = slot_offset
+number Refusal.LimitZero = limit_zero
+number Refusal.OddPc = odd_pc
+number Refusal.NotFetched = not_fetched
+number Refusal.NotCovered = not_covered
+number Refusal.OutputShort = output_short
+number Refusal.UsedExceedsStore = used_exceeds_store
+number Refusal.CodeExceedsStore = code_exceeds_store
+number Refusal.BlockLength = block_length
+number Refusal.MemoryExceedsTop = memory_exceeds_top
+number Refusal.ListingLength = listing_length
+number Refusal.OutsideForms = outside_forms
+number Refusal.ListingShort = listing_short
+number Refusal.CodeLength = code_length
+number Refusal.NoBlock = no_block

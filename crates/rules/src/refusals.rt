@@ -1,4 +1,43 @@
-// The refusals, by number.
+// The refusals, and their numbers.
+ghost use Rattle.std.specs.Prelude.{◌≡◌};
+ghost use Rattle.rules.specs.Refusals.{number};
+
+#[derive(Clone, Copy, PartialEq, Eq, Debug)]
+pub enum Refusal {
+    SlotOffset = 1,
+    LimitZero = 2,
+    OddPc = 3,
+    NotFetched = 4,
+    NotCovered = 5,
+    OutputShort = 6,
+    UsedExceedsStore = 7,
+    CodeExceedsStore = 8,
+    BlockLength = 10,
+    MemoryExceedsTop = 11,
+    ListingLength = 12,
+    OutsideForms = 13,
+    ListingShort = 14,
+    CodeLength = 15,
+    NoBlock = 16,
+}
+
+impl From<Refusal> for u32 {
+    ghost from_gives = { λ refusal n. n ≡ number refusal };
+
+    fn from(refusal: Refusal) -> u32 {
+        refusal as u32
+    }
+}
+
+impl From<Refusal> for u64 {
+    ghost from_gives = { λ refusal n. n ≡ number refusal };
+
+    fn from(refusal: Refusal) -> u64 {
+        u64::from(u32::from(refusal))
+    }
+}
+
+// The same as numbers alone.
 pub const SLOT_OFFSET: u32 = 1;
 
 pub const LIMIT_ZERO: u32 = 2;
