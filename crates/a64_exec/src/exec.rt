@@ -110,7 +110,7 @@ fn load(
     let place = locate(x, sp, rn, imm, base, memory);
     match place {
         Access::At(i) => {
-            put(x, rt, le::load64(memory, i));
+            put(x, rt, le::load::<u64>(memory, i));
             leave(Outcome::Next, sp, flags)
         }
         Access::Fault => leave(Outcome::Fault, sp, flags),
@@ -133,7 +133,7 @@ fn store(
     let place = locate(x, sp, rn, imm, base, memory);
     match place {
         Access::At(i) => {
-            le::store64(memory, i, get(x, rt));
+            le::store(memory, i, get(x, rt));
             leave(Outcome::Next, sp, flags)
         }
         Access::Fault => leave(Outcome::Fault, sp, flags),

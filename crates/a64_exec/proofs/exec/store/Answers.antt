@@ -3,16 +3,16 @@ use Rattle.le.proofs.Laws.{length-store}
 use Rattle.a64_exec.specs.Exec.{exec}
 use Rattle.a64_exec.proofs.exec.store.Goals as goal
 
-pub store64-requires : goal.store64-requires
-store64-requires c = (rw c.in-At.is at (c.locate-place.ensures c.args.flags)).2
+pub store-requires : goal.store-requires
+store-requires c = (rw c.in-At.is at (c.locate-place.ensures c.args.flags)).2
 
 pub returns-in-At : goal.returns-in-At
 unfolding exec
 returns-in-At c = let t = (rw c.in-At.is at (c.locate-place.ensures c.args.flags)) in
     record {
-      goes = rw (t.0, c.leave.ensures, c.store64.ensures, c.get.ensures, t.1);
+      goes = rw (t.0, c.leave.ensures, c.store.ensures, c.get.ensures, t.1);
       registers = search rules;
-      size = ap length c.store64.ensures ∙ length-store 8 _ _ _ t.2;
+      size = ap length c.store.ensures ∙ length-store 8 _ _ _ t.2;
     }
 
 pub returns-in-Fault : goal.returns-in-Fault
