@@ -1,6 +1,6 @@
 -- Emitters that call one another. Assumes nothing.
 use Prim.Native.Nat.{ℕ}
-use mathlib.Core.Path.{◌≡◌, refl}
+use mathlib.Core.Path.{◌≡◌, refl, ap, ◌∙◌}
 use mathlib.Core.Bool.{Bool, true, false}
 use mathlib.Core.List.{List, [], ◌∷◌, ◌++◌}
 use lib.Dec.{eqb}
@@ -12,13 +12,17 @@ use Rattle.a64_emitter.proofs.Emission.{emitted-none}
 use Rattle.emit_native.specs.declared.EmitFlow.{EmitFlow}
 use Rattle.emit_native.specs.declared.EmitFlow.TheVariants.{Continue, Terminate}
 use Rattle.emit_native.specs.Calls.{Call, groups, reg_off, store_rd, Emission, calls_first, then_store_rd}
-use Rattle.emit_native.specs.Parts.{Held, after, emit_if, emitted, stores, stored}
+use Rattle.emit_native.specs.Parts.{Held, Answer, after, emit_if, emitted, stores, stored}
 use Rattle.emit_native.proofs.Size.{by}
 
 -- calls after calls
 pub after_append : (h : Held) (cs ds : List Call) → after h (cs ++ ds) ≡ after (after h cs) ds
 after_append h [] ds = refl
 after_append h (c ∷ cs) ds = after_append (after h (c ∷ [])) cs ds
+
+-- an answer from what is held, by another name
+pub from : {h h' : Held} (e : Emission) {r : Answer} → h ≡ h' → r ≡ emitted h e → r ≡ emitted h' e
+from e q a = a ∙ ap (λ (h : Held). emitted h e) q
 
 -- calls, and then what a match answers
 pub first : (h : Held) (cs : List Call) (e : Emission) → emitted (after h cs) e ≡ emitted h (calls_first cs e)
