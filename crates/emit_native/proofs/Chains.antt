@@ -33,10 +33,15 @@ pub then : (h : Held) (cs : List Call) (e : Emission) (rd : ℕ) → stored (emi
 then h cs e rd = rw (after_append h cs (e.calls ++ store_rd e.flow rd), after_append (after h cs) e.calls (store_rd e.flow rd)) refl
 
 -- a call that a test asks for
-pub asked : (o : ℕ) (h : List ℕ) (test : Bool) (w : ℕ) → emitted_in instr_words h (emitted_if test w) ≡ in_turn instr_words h (groups o (emit_if test w))
+pub asked : (h : Held) (test : Bool) (w : ℕ) → record { words = emitted_in instr_words h.words (emitted_if test w); slot_offset = h.slot_offset } ≡ after h (emit_if test w)
 unfolding emitted_if
-asked o h true w = refl
-asked o h false w = emitted-none instr_words h
+asked h true w = refl
+asked h false w = rw (emitted-none instr_words h.words) refl
+
+-- the words that are then held, by groups
+pub after_words : (h : Held) (cs : List Call) → (after h cs).words ≡ in_turn instr_words h.words (groups h.slot_offset cs)
+after_words h [] = refl
+after_words h (c ∷ cs) = after_words (after h (c ∷ [])) cs
 
 -- the store after a match, by its test
 pub asked_store : (h : Held) (f : Option EmitFlow) (rd : ℕ)

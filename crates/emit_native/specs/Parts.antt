@@ -2,12 +2,12 @@
 use Rattle.std.specs.Prelude.{ℕ, ◌<◌, Bool, false, cond, not, List, [], ◌∷◌, take, eqb, Option, Some, None}
 use Rattle.rules.specs.Limits.{instr_words}
 use Rattle.isa.specs.declared.decode.Decoded32.{Decoded32}
-use Rattle.a64_emitter.specs.Parts.{in_turn}
+use Rattle.a64_emitter.specs.Parts.{emitted_in}
 use Rattle.emit_native.specs.declared.InstrEmitter.{InstrEmitter}
 use Rattle.emit_native.specs.declared.EmitFlow.{EmitFlow}
 use Rattle.emit_native.specs.declared.EmitFlow.TheVariants.{Continue, Terminate}
 use Rattle.emit_native.specs.declared.Emitted.{Emitted}
-use Rattle.emit_native.specs.Calls.{Call, emit, groups, Emission, store_rd}
+use Rattle.emit_native.specs.Calls.{Call, emit, call_words, product, Emission, store_rd}
 
 -- the registers of an instruction
 abbrev pub InRange : Decoded32 → Type 0
@@ -28,7 +28,9 @@ nothing slot_offset = record { words = []; slot_offset = slot_offset }
 
 -- after calls, each of which adds its words, or none where they do not fit
 abbrev pub after : Held → List Call → Held
-after h cs = record { words = in_turn instr_words h.words (groups h.slot_offset cs); slot_offset = h.slot_offset }
+after h [] = h
+after h (c ∷ cs) =
+    after (record { words = emitted_in instr_words h.words (call_words product h.slot_offset c); slot_offset = h.slot_offset }) cs
 
 -- the call that a test asks for
 abbrev pub emit_if : Bool → ℕ → List Call

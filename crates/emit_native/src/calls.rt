@@ -143,7 +143,8 @@ impl<'a> InstrEmitter<'a> {
 
     #[tactic(auto, unfolding(crate::specs::Parts::answer))]
     pub fn none(self) -> Emitted<'a>
-        ensures { answer result ≡ emitted (held self.entry) (none []) }
+        ensures answers { answer result ≡ emitted (held self.entry) (none []) }
+        ensures words_unchanged { result.em.words.now ≡ self.entry.words.now }
     {
         Emitted {
             em: self,

@@ -5,7 +5,7 @@ use Rattle.instr16.proofs.emit_addi4spn.Goals as goal
 
 pub returns-then-imm-eq0 : goal.returns-then-imm-eq0
 unfolding addi4spn
-returns-then-imm-eq0 c = rw (imm_addi4spn_is c.args.instr, ← c.imm_ciw-imm.ensures, eq-eqb _ _ c.if-imm-eq0.true, c.none.ensures)
+returns-then-imm-eq0 c = rw (imm_addi4spn_is c.args.instr, ← c.imm_ciw-imm.ensures, eq-eqb _ _ c.if-imm-eq0.true, c.none.ensures.answers)
 
 pub returns : goal.returns
 unfolding addi4spn

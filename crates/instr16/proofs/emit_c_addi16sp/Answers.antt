@@ -5,7 +5,7 @@ use Rattle.instr16.proofs.emit_c_addi16sp.Goals as goal
 
 pub returns-then-imm-eq0 : goal.returns-then-imm-eq0
 unfolding c_addi16sp
-returns-then-imm-eq0 c = rw (imm_addi16sp_is c.args.instr, ← c.imm_ci16-imm.ensures, eq-eqb _ _ c.if-imm-eq0.true, c.none.ensures)
+returns-then-imm-eq0 c = rw (imm_addi16sp_is c.args.instr, ← c.imm_ci16-imm.ensures, eq-eqb _ _ c.if-imm-eq0.true, c.none.ensures.answers)
 
 pub returns : goal.returns
 unfolding c_addi16sp

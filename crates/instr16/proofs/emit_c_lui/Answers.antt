@@ -5,7 +5,7 @@ use Rattle.instr16.proofs.emit_c_lui.Goals as goal
 
 pub returns-then-imm-eq0 : goal.returns-then-imm-eq0
 unfolding c_lui
-returns-then-imm-eq0 c = rw (← c.rd_of-rd.ensures.0, imm_ci_is c.args.instr, ← c.imm_ci-imm.ensures, ne_eqb _ _ c.if-rd-eq0.false, eq-eqb _ _ c.if-imm-eq0.true, c.none-then-imm-eq0.ensures)
+returns-then-imm-eq0 c = rw (← c.rd_of-rd.ensures.0, imm_ci_is c.args.instr, ← c.imm_ci-imm.ensures, ne_eqb _ _ c.if-rd-eq0.false, eq-eqb _ _ c.if-imm-eq0.true, c.none-then-imm-eq0.ensures.answers)
 
 pub returns : goal.returns
 unfolding c_lui

@@ -32,4 +32,4 @@ pub returns-in-MiscMem : goal.returns-in-MiscMem
 returns-in-MiscMem c = rw (in_arm _ _ _ c.requires c.opcode_class.ensures c.in-MiscMem.is) c.emit_misc_mem.ensures
 
 pub returns-in-Load : goal.returns-in-Load
-returns-in-Load c = rw (refused _ _ _ c.requires c.opcode_class.ensures c.in-Load.is) c.none.ensures
+returns-in-Load c = rw (refused _ _ _ c.requires c.opcode_class.ensures c.in-Load.is) c.none.ensures.answers

@@ -11,4 +11,4 @@ unfolding held
 returns c =
     let s = c.args.self in
     let l : length s.words.now ≡ instr_words = search rules in
-    rw (c.emit_at_if.ensures.holds, l, asked s.slot_offset _ c.args.test c.args.w)
+    rw (c.emit_at_if.ensures.holds, l, asked (held s) c.args.test c.args.w)
