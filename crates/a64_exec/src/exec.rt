@@ -65,7 +65,7 @@ impl Machine<'_> {
         requires { i + 8 ≤ length self.now.memory.now }
         ensures { result ≡ load 8 (held self.now).mem i }
     {
-        le::load64(self.memory, i)
+        le::load::<u64>(self.memory, i)
     }
 
     // Where an access through register n at the offset imm * 8 lies. Register 31 is SP.
@@ -122,7 +122,7 @@ impl Machine<'_> {
         };
         let v = self.register(rt);
         let memory = &mut *self.memory;
-        le::store64(memory, i, v);
+        le::store(memory, i, v);
         Outcome::Next
     }
 

@@ -67,7 +67,7 @@ fn step(
     requires { (length x.old ≡ 31) × (4 * i + 4 ≤ length block.now) }
     ensures { Executed (decode (load 4 block.now (4 * i))) (machine x.old sp flags base memory.old) result x.new memory.new }
 {
-    let w = le::load32(block, 4 * i);
+    let w = le::load::<u32>(block, 4 * i);
     exec::exec(x, sp, flags, a64::decode(w), memory, base)
 }
 

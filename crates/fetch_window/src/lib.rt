@@ -31,7 +31,7 @@ pub fn halfword_at(bytes: &[u8], i: u64) -> Halfword
     if n - 2 < i {
         return Halfword::Missing;
     }
-    Halfword::Found(le::load16(bytes, i))
+    Halfword::Found(le::load::<u16>(bytes, i))
 }
 
 // The halfword at a PC.

@@ -10,8 +10,8 @@ pub fn from_bytes(b: &[u8]) -> A64State
 {
     let mut x = [0u64; 31];
     le::read64(b, &mut x);
-    let sp = le::load64(b, 248);
-    let flags = a64_alu::flags_of(le::load64(b, 256));
+    let sp = le::load::<u64>(b, 248);
+    let flags = a64_alu::flags_of(le::load::<u64>(b, 256));
     A64State {
         x: x,
         sp: sp,
@@ -26,6 +26,6 @@ pub fn to_bytes(s: A64State, b: &mut [u8])
     let x = s.x;
     let flags = s.flags;
     le::write64(&x, b);
-    le::store64(b, 248, s.sp);
-    le::store64(b, 256, a64_alu::nzcv_of(flags));
+    le::store(b, 248, s.sp);
+    le::store(b, 256, a64_alu::nzcv_of(flags));
 }
