@@ -137,6 +137,15 @@ impl Machine<'_> {
         }
     }
 
+    // X30 set to the address after a call.
+    pub fn link(&mut self, address: u64)
+        ensures held { held self.new ≡ with_reg (held self.old) 30 address }
+        ensures x_lent { self.new.x.ghost_name ≡ self.old.x.ghost_name }
+        ensures memory_lent { self.new.memory.ghost_name ≡ self.old.memory.ghost_name }
+    {
+        set(self.x, 30, address);
+    }
+
     // What the form f does.
     #[tactic(auto, using(crate::proofs::Reach::form_results), unfolding(crate::specs::Exec::exec))]
     pub fn exec(&mut self, f: Form) -> Outcome
