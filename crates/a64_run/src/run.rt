@@ -96,7 +96,7 @@ pub fn a64_run_from(
     block: &[u8],
     address: u64,
     first: u64,
-    state: A64State,
+    mut state: A64State,
     budget: u64,
     memory: &mut [u8],
     base: u64,
@@ -115,7 +115,6 @@ pub fn a64_run_from(
             given: state,
         });
     }
-    let mut state = state;
     let mut machine = Machine {
         x: &mut state.x,
         sp: state.sp,
@@ -124,10 +123,8 @@ pub fn a64_run_from(
         base,
     };
     let (end, steps) = run_words(&mut machine, block, address, first, budget);
-    let sp = machine.sp;
-    let flags = machine.flags;
-    state.sp = sp;
-    state.flags = flags;
+    state.sp = machine.sp;
+    state.flags = machine.flags;
     Ok(Ran { end, steps, state })
 }
 
