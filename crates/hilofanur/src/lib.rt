@@ -153,21 +153,20 @@ pub extern "C" fn hilofanur_a64_run_from(
     ensures { Answers.a64_result result state.new memory.new ≡ Answers.a64_run_from block.now address first state.old budget memory.old base }
 {
     let before = a64_state::from_bytes(state);
-    let answer = a64_run::run::a64_run_from(block, address, first, before, budget, memory, base);
-    let refusal = answer.refusal;
-    if refusal != 0 {
-        return A64RunAnswer {
-            refusal: refusal,
-            end: answer.end,
-            steps: answer.steps,
-        };
-    }
-    let after = answer.state;
-    a64_state::to_bytes(after, state);
-    A64RunAnswer {
-        refusal: refusal,
-        end: answer.end,
-        steps: answer.steps,
+    match a64_run::run::a64_run_from(block, address, first, before, budget, memory, base) {
+        Ok(ran) => {
+            a64_state::to_bytes(ran.state, state);
+            A64RunAnswer {
+                refusal: 0,
+                end: u32::from(ran.end),
+                steps: ran.steps,
+            }
+        }
+        Err(refused) => A64RunAnswer {
+            refusal: u32::from(refused.refusal),
+            end: 0,
+            steps: 0,
+        },
     }
 }
 
@@ -183,23 +182,20 @@ pub extern "C" fn hilofanur_rv64_run(
     ensures { Answers.rv64_result result registers.new ≡ Answers.rv64_run guest.now pc limit ignore_ebreak registers.old }
 {
     let before = rv64_hart::from_bytes(registers, pc);
-    let answer = rv64_run::run::rv64_run(guest, before, limit, ignore_ebreak);
-    let why = answer.refusal;
-    let refusal = rv64_run::run::number(why);
-    let after = answer.hart;
-    let next_pc = after.pc;
-    if refusal != 0 {
-        return Rv64RunAnswer {
-            refusal: refusal,
-            count: answer.count,
-            next_pc: next_pc,
-        };
-    }
-    rv64_hart::to_bytes(after, registers);
-    Rv64RunAnswer {
-        refusal: refusal,
-        count: answer.count,
-        next_pc: next_pc,
+    match rv64_run::run::rv64_run(guest, before, limit, ignore_ebreak) {
+        Ok(ran) => {
+            rv64_hart::to_bytes(ran.hart, registers);
+            Rv64RunAnswer {
+                refusal: 0,
+                count: ran.count,
+                next_pc: ran.hart.pc,
+            }
+        }
+        Err(refused) => Rv64RunAnswer {
+            refusal: u32::from(refused.refusal),
+            count: 0,
+            next_pc: 0,
+        },
     }
 }
 

@@ -26,12 +26,20 @@ fn agrees(file: &mut &[u8], rules: bool, guest: &[u8]) -> bool {
     let next_pc = replay::read_number(file);
     let count = replay::read_byte(file) as u32;
     let expected = read_rule(file, rules) as u32;
-    let after = answer.hart;
-    let refusal = answer.refusal;
-    replay::same_registers(&after.x, &x)
-        && run::number(refusal) == expected
-        && after.pc == next_pc
-        && answer.count == count
+    match answer {
+        Ok(ran) => {
+            replay::same_registers(&ran.hart.x, &x)
+                && expected == 0
+                && ran.hart.pc == next_pc
+                && ran.count == count
+        }
+        Err(refused) => {
+            replay::same_registers(&refused.given.x, &x)
+                && u32::from(refused.refusal) == expected
+                && next_pc == 0
+                && count == 0
+        }
+    }
 }
 
 fn replay_case(file: &mut &[u8], rules: bool) -> bool {
