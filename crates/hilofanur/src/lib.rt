@@ -13,7 +13,7 @@ ghost use Rattle.block_index.specs.Model as Model;
 ghost use Rattle.code_cache.specs.Place as P;
 ghost use Rattle.hilofanur.specs.Answers as Answers;
 
-use block_log::{Entry, Index};
+use block_log::Entry;
 use code_cache::Placed;
 use emit_native::Host;
 use rules::refusals::Refusal;
@@ -267,7 +267,7 @@ pub extern "C" fn hilofanur_list(block: &[u8], output: &mut [u8]) -> ListAnswer
 
 // index: block_log's layout. Emptied once, it is the calls' own.
 #[unsafe(no_mangle)]
-pub extern "C" fn hilofanur_index_empty(index: &mut Index)
+pub extern "C" fn hilofanur_index_empty(index: &mut [u8; block_log::INDEX_BYTES])
     ensures { index.new ≡ emptied index.old }
 {
     block_index::empty(index);
@@ -275,7 +275,7 @@ pub extern "C" fn hilofanur_index_empty(index: &mut Index)
 
 #[unsafe(no_mangle)]
 pub extern "C" fn hilofanur_index_place(
-    index: &mut Index,
+    index: &mut [u8; block_log::INDEX_BYTES],
     store: &mut [u8],
     space: u64,
     pc: u64,
@@ -288,7 +288,11 @@ pub extern "C" fn hilofanur_index_place(
 }
 
 #[unsafe(no_mangle)]
-pub extern "C" fn hilofanur_index_lookup(index: &Index, space: u64, pc: u64) -> IndexLookupAnswer
+pub extern "C" fn hilofanur_index_lookup(
+    index: &[u8; block_log::INDEX_BYTES],
+    space: u64,
+    pc: u64,
+) -> IndexLookupAnswer
     ensures { Looks index.now space pc (Answers.found result) }
 {
     IndexLookupAnswer::from(block_index::lookup(index, space, pc))
