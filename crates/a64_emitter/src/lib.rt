@@ -123,7 +123,7 @@ fn write_words(words: &[u32], len: usize, out: &mut [u8]) -> usize
         return 4 * n;
     }
     for i in 0..n {
-        le::store32(out, 4 * i, words[i]);
+        le::store(out, 4 * i, words[i]);
     }
     4 * n
 }

@@ -19,7 +19,7 @@ pub fn put16(out: &mut [u8], at: usize, v: u16) -> usize
     requires { at + 2 ≤ length out.old }
     ensures { Put out.old at (bytes 2 v) out.new result }
 {
-    le::store16(out, at, v);
+    le::store(out, at, v);
     at + 2
 }
 
@@ -27,7 +27,7 @@ pub fn put32(out: &mut [u8], at: usize, v: u32) -> usize
     requires { at + 4 ≤ length out.old }
     ensures { Put out.old at (bytes 4 v) out.new result }
 {
-    le::store32(out, at, v);
+    le::store(out, at, v);
     at + 4
 }
 
@@ -35,7 +35,7 @@ pub fn put64(out: &mut [u8], at: usize, v: u64) -> usize
     requires { at + 8 ≤ length out.old }
     ensures { Put out.old at (bytes 8 v) out.new result }
 {
-    le::store64(out, at, v);
+    le::store(out, at, v);
     at + 8
 }
 

@@ -39,7 +39,7 @@ pub fn cell(m: &[u8], b: usize) -> u16
     requires { (length m.now ≡ L.index_bytes) × (b ≤ L.buckets) }
     ensures { (result ≡ L.cell m.now b) × (result < L.slots) }
 {
-    le::load16(m, 2 * b) % SLOTS
+    le::load::<u16>(m, 2 * b) % SLOTS
 }
 
 // The last slot used.
@@ -54,35 +54,35 @@ pub fn space_at(m: &[u8], p: u16) -> u64
     requires { (length m.now ≡ L.index_bytes) × (p < L.slots) }
     ensures { result ≡ L.space_at m.now p }
 {
-    le::load64(m, LOG + SLOT_BYTES * p as usize)
+    le::load::<u64>(m, LOG + SLOT_BYTES * p as usize)
 }
 
 pub fn pc_at(m: &[u8], p: u16) -> u64
     requires { (length m.now ≡ L.index_bytes) × (p < L.slots) }
     ensures { result ≡ L.pc_at m.now p }
 {
-    le::load64(m, LOG + SLOT_BYTES * p as usize + 8)
+    le::load::<u64>(m, LOG + SLOT_BYTES * p as usize + 8)
 }
 
 pub fn start_at(m: &[u8], p: u16) -> u64
     requires { (length m.now ≡ L.index_bytes) × (p < L.slots) }
     ensures { result ≡ L.start_at m.now p }
 {
-    le::load64(m, LOG + SLOT_BYTES * p as usize + 16)
+    le::load::<u64>(m, LOG + SLOT_BYTES * p as usize + 16)
 }
 
 pub fn length_at(m: &[u8], p: u16) -> u64
     requires { (length m.now ≡ L.index_bytes) × (p < L.slots) }
     ensures { result ≡ L.length_at m.now p }
 {
-    le::load64(m, LOG + SLOT_BYTES * p as usize + 24)
+    le::load::<u64>(m, LOG + SLOT_BYTES * p as usize + 24)
 }
 
 pub fn next_at(m: &[u8], p: u16) -> u16
     requires { (length m.now ≡ L.index_bytes) × (p < L.slots) }
     ensures { (result ≡ L.next_at m.now p) × (result < L.slots) }
 {
-    le::load16(m, LOG + SLOT_BYTES * p as usize + 32) % SLOTS
+    le::load::<u16>(m, LOG + SLOT_BYTES * p as usize + 32) % SLOTS
 }
 
 pub fn count_at(m: &[u8], p: u16) -> u8
@@ -117,11 +117,11 @@ fn put(m: &mut [u8], p: u16, e: Entry, next: u16)
     ensures { m.new ≡ L.put m.old p e next }
 {
     let at = LOG + SLOT_BYTES * p as usize;
-    le::store64(m, at, e.space);
-    le::store64(m, at + 8, e.pc);
-    le::store64(m, at + 16, e.start);
-    le::store64(m, at + 24, e.length);
-    le::store16(m, at + 32, next);
+    le::store(m, at, e.space);
+    le::store(m, at + 8, e.pc);
+    le::store(m, at + 16, e.start);
+    le::store(m, at + 24, e.length);
+    le::store(m, at + 32, next);
     put_count(m, p, e.count);
 }
 
@@ -153,11 +153,11 @@ fn unlink(m: &mut [u8], b: usize, p: u16)
     let next = next_at(m, p);
     let head = cell(m, b);
     if head == p {
-        le::store16(m, 2 * b, next);
+        le::store(m, 2 * b, next);
         return;
     }
     let q = previous(m, head, p);
-    le::store16(m, LOG + SLOT_BYTES * q as usize + 32, next);
+    le::store(m, LOG + SLOT_BYTES * q as usize + 32, next);
 }
 
 // The block at a slot is dropped: the slot is a tombstone, and in no chain.
@@ -167,7 +167,7 @@ pub fn drop_at(m: &mut [u8], p: u16)
 {
     let b = bucket(space_at(m, p), pc_at(m, p));
     unlink(m, b, p);
-    le::store64(m, LOG + SLOT_BYTES * p as usize + 24, 0);
+    le::store(m, LOG + SLOT_BYTES * p as usize + 24, 0u64);
 }
 
 // No slot used, no slot in a chain.
@@ -191,6 +191,6 @@ pub fn push(m: &mut [u8], e: Entry)
     let b = bucket(e.space, e.pc);
     let next = cell(m, b);
     put(m, p, e, next);
-    le::store16(m, 2 * b, p);
-    le::store16(m, LOG, p);
+    le::store(m, 2 * b, p);
+    le::store(m, LOG, p);
 }

@@ -10,16 +10,16 @@ use translator::Answer;
 // Translates as the case says; `asked` is what the file has between the guest bytes and the answer.
 fn ask(guest: &[u8], asked: &[u8; 49], output: &mut [u8]) -> Answer {
     let host = Host {
-        slot_offset: le::load64(asked, 13),
-        memory_helper: le::load64(asked, 21),
-        helper32: le::load64(asked, 29),
-        helper16: le::load64(asked, 37),
+        slot_offset: le::load::<u64>(asked, 13),
+        memory_helper: le::load::<u64>(asked, 21),
+        helper32: le::load::<u64>(asked, 29),
+        helper16: le::load::<u64>(asked, 37),
         ignore_ebreak: asked[12] != 0,
     };
     translation::translate(
         guest,
-        le::load64(asked, 0),
-        le::load32(asked, 8),
+        le::load::<u64>(asked, 0),
+        le::load::<u32>(asked, 8),
         host,
         output,
     )
@@ -34,7 +34,7 @@ fn same_answer(answer: Answer, found: &[u8; 5]) -> bool {
     answer.refusal == wide(found[0])
         && answer.end == wide(found[1])
         && answer.count == wide(found[2])
-        && answer.length == 4 * (le::load16(found, 3) as u32)
+        && answer.length == 4 * (le::load::<u16>(found, 3) as u32)
 }
 
 // Compares refusal, end kind, count, length and every byte of the output.
@@ -52,7 +52,7 @@ fn agrees(
     if replay::read_full(file, &mut found) < 5 {
         return false;
     }
-    let length = 4 * (le::load16(&found, 3) as usize);
+    let length = 4 * (le::load::<u16>(&found, 3) as usize);
     if expected.len() < length {
         return false;
     }
@@ -68,7 +68,7 @@ fn replay_question(file: &mut &[u8], guest: &[u8]) -> bool {
     if replay::read_full(file, &mut asked) < 49 {
         return false;
     }
-    let room = le::load32(&asked, 45) as usize;
+    let room = le::load::<u32>(&asked, 45) as usize;
     if room > 8192 {
         return false;
     }
@@ -89,7 +89,7 @@ fn replay_case(file: &mut &[u8]) -> bool {
     if replay::read_full(file, &mut size) < 2 {
         return false;
     }
-    let n = le::load16(&size, 0) as usize;
+    let n = le::load::<u16>(&size, 0) as usize;
     if n > 256 {
         return false;
     }

@@ -24,7 +24,7 @@ pub fn halfword_at(bytes: &[u8], i: u64) -> Option<u16>
     if n - 2 < i {
         return None;
     }
-    Some(le::load16(bytes, i))
+    Some(le::load::<u16>(bytes, i))
 }
 
 // The halfword at a PC.

@@ -1,3 +1,4 @@
 pub mod Laws
+pub mod Arrays
 pub mod Splices
 pub mod Lists

@@ -1,63 +1,98 @@
 // Little-endian numbers in byte slices.
 #![tactic(auto)]
 
-ghost use Rattle.std.specs.Prelude.{◌≡◌, ◌+◌, ◌*◌, ◌<◌, ◌≤◌, length};
+ghost use Rattle.std.specs.Prelude.{◌≡◌, ℕ, ◌+◌, ◌*◌, ◌<◌, ◌≤◌, length};
 ghost use Rattle.le.specs.Le.{load, store, numbers};
 ghost use Rattle.le.specs.Parts.{over};
 
-fn wide(b: u8) -> u16
-    ensures { (result ≡ b) × (result < 256) }
-{
-    b as u16
+// A number of WIDTH bytes.
+pub trait Number: Copy {
+    ghost WIDTH: { ℕ };
+
+    const WIDTH: usize;
+
+    ghost value: { Self → ℕ };
+
+    fn load_at(s: &[u8], at: usize) -> Self
+        requires { at + WIDTH ≤ length s.now }
+        ensures { value result ≡ load WIDTH s.now at };
+
+    fn store_at(self, s: &mut [u8], at: usize)
+        requires { at + WIDTH ≤ length s.old }
+        ensures { s.new ≡ store WIDTH s.old at (value self) };
 }
 
-pub fn load16(s: &[u8], at: usize) -> u16
-    requires { at + 2 ≤ length s.now }
-    ensures { result ≡ load 2 s.now at }
-{
-    wide(s[at]) + wide(s[at + 1]) * 256
+impl Number for u16 {
+    ghost WIDTH = { 2 };
+
+    const WIDTH: usize = 2;
+
+    ghost value = { λ v. v };
+
+    fn load_at(s: &[u8], at: usize) -> u16 {
+        u16::from_le_bytes([s[at], s[at + 1]])
+    }
+
+    fn store_at(self, s: &mut [u8], at: usize) {
+        s[at..at + 2].copy_from_slice(&self.to_le_bytes());
+    }
 }
 
-pub fn load32(s: &[u8], at: usize) -> u32
-    requires { at + 4 ≤ length s.now }
-    ensures { result ≡ load 4 s.now at }
-{
-    let low = load16(s, at) as u32;
-    let high = load16(s, at + 2) as u32;
-    low + high * 65536
+impl Number for u32 {
+    ghost WIDTH = { 4 };
+
+    const WIDTH: usize = 4;
+
+    ghost value = { λ v. v };
+
+    fn load_at(s: &[u8], at: usize) -> u32 {
+        u32::from_le_bytes([s[at], s[at + 1], s[at + 2], s[at + 3]])
+    }
+
+    fn store_at(self, s: &mut [u8], at: usize) {
+        s[at..at + 4].copy_from_slice(&self.to_le_bytes());
+    }
 }
 
-pub fn load64(s: &[u8], at: usize) -> u64
-    requires { at + 8 ≤ length s.now }
-    ensures { result ≡ load 8 s.now at }
-{
-    let low = load32(s, at) as u64;
-    let high = load32(s, at + 4) as u64;
-    low + high * 0x1_0000_0000
+impl Number for u64 {
+    ghost WIDTH = { 8 };
+
+    const WIDTH: usize = 8;
+
+    ghost value = { λ v. v };
+
+    fn load_at(s: &[u8], at: usize) -> u64 {
+        u64::from_le_bytes([
+            s[at],
+            s[at + 1],
+            s[at + 2],
+            s[at + 3],
+            s[at + 4],
+            s[at + 5],
+            s[at + 6],
+            s[at + 7],
+        ])
+    }
+
+    fn store_at(self, s: &mut [u8], at: usize) {
+        s[at..at + 8].copy_from_slice(&self.to_le_bytes());
+    }
 }
 
-pub fn store16(s: &mut [u8], at: usize, v: u16)
-    requires { at + 2 ≤ length s.old }
-    ensures { s.new ≡ store 2 s.old at v }
+// The number in the bytes of s from `at` on.
+pub fn load<N: Number>(s: &[u8], at: usize) -> N
+    requires { at + N.WIDTH ≤ length s.now }
+    ensures { N.value result ≡ load N.WIDTH s.now at }
 {
-    s[at] = (v % 256) as u8;
-    s[at + 1] = (v / 256 % 256) as u8;
+    N::load_at(s, at)
 }
 
-pub fn store32(s: &mut [u8], at: usize, v: u32)
-    requires { at + 4 ≤ length s.old }
-    ensures { s.new ≡ store 4 s.old at v }
+// The bytes of v over those of s from `at` on.
+pub fn store<N: Number>(s: &mut [u8], at: usize, v: N)
+    requires { at + N.WIDTH ≤ length s.old }
+    ensures { s.new ≡ store N.WIDTH s.old at (N.value v) }
 {
-    store16(s, at, (v % 65536) as u16);
-    store16(s, at + 2, (v / 65536) as u16);
-}
-
-pub fn store64(s: &mut [u8], at: usize, v: u64)
-    requires { at + 8 ≤ length s.old }
-    ensures { s.new ≡ store 8 s.old at v }
-{
-    store32(s, at, (v % 0x1_0000_0000) as u32);
-    store32(s, at + 4, (v / 0x1_0000_0000) as u32);
+    v.store_at(s, at);
 }
 
 // The numbers at the front of b, into x.
@@ -65,11 +100,8 @@ pub fn read64(b: &[u8], x: &mut [u64])
     requires { 8 * length x.old ≤ length b.now }
     ensures { x.new ≡ numbers 8 (length x.old) b.now }
 {
-    let n = x.len();
-    let mut i = 0;
-    while i < n {
-        x[i] = load64(b, 8 * i);
-        i += 1;
+    for (i, n) in x.iter_mut().enumerate() {
+        *n = load(b, 8 * i);
     }
 }
 
@@ -78,10 +110,7 @@ pub fn write64(x: &[u64], b: &mut [u8])
     requires { 8 * length x.now ≤ length b.old }
     ensures { b.new ≡ over 8 x.now b.old }
 {
-    let n = x.len();
-    let mut i = 0;
-    while i < n {
-        store64(b, 8 * i, x[i]);
-        i += 1;
+    for (i, n) in x.iter().enumerate() {
+        store(b, 8 * i, *n);
     }
 }

@@ -92,8 +92,8 @@ fn replay_block(file: &mut &[u8], block: &[u8]) -> bool {
         return false;
     }
     let refusal = wide(found[0]);
-    let offset = le::load32(&found, 1) as u64;
-    let length = le::load16(&found, 5) as usize;
+    let offset = le::load::<u32>(&found, 1) as u64;
+    let length = le::load::<u16>(&found, 5) as usize;
     if refusal != 0 {
         return length == 0 && refused(block, refusal, offset);
     }
@@ -110,7 +110,7 @@ fn replay_case(file: &mut &[u8]) -> bool {
     if replay::read_full(file, &mut size) < 2 {
         return false;
     }
-    let n = le::load16(&size, 0) as usize;
+    let n = le::load::<u16>(&size, 0) as usize;
     if n > MOST {
         return false;
     }

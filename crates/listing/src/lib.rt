@@ -28,7 +28,7 @@ fn count_outside(block: &[u8]) -> u32
     let mut n: u32 = 0;
     let mut i = 0;
     while i < count {
-        n += forms::is_outside(le::load32(block, 4 * i));
+        n += forms::is_outside(le::load::<u32>(block, 4 * i));
         i += 1;
     }
     n
@@ -42,7 +42,7 @@ fn first_outside(block: &[u8]) -> usize
     let count = block.len() / 4;
     let mut i = 0;
     while i < count {
-        if forms::is_outside(le::load32(block, 4 * i)) == 1 {
+        if forms::is_outside(le::load::<u32>(block, 4 * i)) == 1 {
             return 4 * i;
         }
         i += 1;
@@ -74,7 +74,7 @@ fn listing_length(block: &[u8]) -> usize
     let mut i = 0;
     while i < count {
         let offset = 4 * i;
-        total += put_line(&mut line, 0, offset as u32, le::load32(block, offset));
+        total += put_line(&mut line, 0, offset as u32, le::load::<u32>(block, offset));
         i += 1;
     }
     total
@@ -90,7 +90,7 @@ fn put_lines(block: &[u8], out: &mut [u8]) -> usize
     let mut i = 0;
     while i < count {
         let offset = 4 * i;
-        at = put_line(out, at, offset as u32, le::load32(block, offset));
+        at = put_line(out, at, offset as u32, le::load::<u32>(block, offset));
         i += 1;
     }
     at

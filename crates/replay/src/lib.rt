@@ -52,7 +52,7 @@ pub fn number_at(record: &[u8], at: usize) -> u64
     ensures beyond { 4096 ≤ at → result ≡ 0 }
 {
     if at < 4096 && at + 8 <= record.len() {
-        return le::load64(record, at);
+        return le::load::<u64>(record, at);
     }
     0
 }
@@ -165,10 +165,10 @@ pub fn read_header(file: &mut &[u8], magic: u64) -> Tally
 {
     let mut header = [0; 12];
     read_full(file, &mut header);
-    if le::load64(&header, 0) != magic {
+    if le::load::<u64>(&header, 0) != magic {
         return tally_of(0);
     }
-    tally_of(le::load32(&header, 8))
+    tally_of(le::load::<u32>(&header, 8))
 }
 
 fn one_less(n: u32) -> u32

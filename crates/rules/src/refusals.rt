@@ -37,6 +37,13 @@ impl From<Refusal> for u64 {
     }
 }
 
+// A refusal, and what was given by value, back as it came in.
+#[derive(Drop)]
+pub struct Refused<S> {
+    pub refusal: Refusal,
+    pub given: S,
+}
+
 // The same as numbers alone.
 pub const SLOT_OFFSET: u32 = 1;
 

@@ -85,14 +85,14 @@ pub fn fetch(guest: &[u8], at: usize) -> Encoding
     if left < 2 {
         return Encoding::Missing;
     }
-    let low = le::load16(guest, at);
+    let low = le::load::<u16>(guest, at);
     if low % 4 != 3 {
         return Encoding::Half(low);
     }
     if left < 4 {
         return Encoding::Missing;
     }
-    Encoding::Word(le::load32(guest, at))
+    Encoding::Word(le::load::<u32>(guest, at))
 }
 
 fn from_flow(flow: Flow, size: usize) -> Stepped

@@ -15,7 +15,7 @@ const MOST: usize = 256;
 // Each word of the block on a line, as eight digits.
 fn print_words(rt: &impl Print, block: &[u8]) -> io::Result<()> {
     for word in block.chunks_exact(4) {
-        println!(rt; "{:08x}", le::load32(word, 0))?;
+        println!(rt; "{:08x}", le::load::<u32>(word, 0))?;
     }
     Ok(())
 }
@@ -46,8 +46,8 @@ fn main(rt: HostRuntime) -> io::Result<()> {
     if input.len() < HEADER {
         return println!(rt; "short input");
     }
-    let pc = le::load64(&input, 0);
-    let limit = le::load32(&input, 8);
+    let pc = le::load::<u64>(&input, 0);
+    let limit = le::load::<u32>(&input, 8);
     let host = Host {
         slot_offset: 0,
         memory_helper: 0x10000,

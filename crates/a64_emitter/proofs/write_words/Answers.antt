@@ -18,7 +18,7 @@ pub loop-i-preserved : goal.loop-i-preserved
 loop-i-preserved c = let a = c.args in
     let l = c.loop-i in
     let k = c.min-n.ensures in
-    let s = c.store32 in
+    let s = c.store in
     let t = c.loop-i-test.true in
     (s.auto.s ∙ l.invariant.0, write_more 4 a.words.now a.out.now _ _ l.i (omega arith) l.invariant.1 s.ensures)
 

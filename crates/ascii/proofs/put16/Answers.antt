@@ -3,4 +3,4 @@ use Rattle.ascii.proofs.Writing.{put-store}
 use Rattle.ascii.proofs.put16.Goals as goal
 
 pub returns : goal.returns
-returns c = put-store 2 _ _ _ _ c.store16.ensures (search rules)
+returns c = put-store 2 _ _ _ _ c.store.ensures (search rules)

@@ -3,4 +3,4 @@ use Rattle.ascii.proofs.Writing.{put-store}
 use Rattle.ascii.proofs.put32.Goals as goal
 
 pub returns : goal.returns
-returns c = put-store 4 _ _ _ _ c.store32.ensures (search rules)
+returns c = put-store 4 _ _ _ _ c.store.ensures (search rules)

@@ -4,7 +4,7 @@ use Rattle.block_log.proofs.drop_at.Goals as goal
 pub returns : goal.returns
 unfolding dropped
 returns c = rw (
-  c.store64.ensures,
+  c.store.ensures,
   c.unlink.ensures,
   c.bucket-b.ensures.0,
   c.pc_at.ensures,

@@ -4,8 +4,8 @@ use Rattle.block_log.proofs.push.Goals as goal
 pub returns : goal.returns
 unfolding pushed
 returns c = rw (
-  c.store16-2.ensures,
-  c.store16.ensures,
+  c.store-2.ensures,
+  c.store.ensures,
   c.put.ensures,
   c.cell-next.ensures.0,
   c.bucket-b.ensures.0,

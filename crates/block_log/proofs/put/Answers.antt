@@ -5,9 +5,9 @@ pub returns : goal.returns
 unfolding put
 returns c = rw (
   c.put_count.ensures,
-  c.store16.ensures,
-  c.store64-4.ensures,
-  c.store64-3.ensures,
-  c.store64-2.ensures,
-  c.store64.ensures,
+  c.store-5.ensures,
+  c.store-4.ensures,
+  c.store-3.ensures,
+  c.store-2.ensures,
+  c.store.ensures,
 )

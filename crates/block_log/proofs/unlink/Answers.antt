@@ -6,7 +6,7 @@ pub returns-then-head-p : goal.returns-then-head-p
 returns-then-head-p c = let a = c.args in
     let h = c.cell-head.ensures.0 in
     rw (
-      c.store16.ensures,
+      c.store.ensures,
       c.next_at-next.ensures.0,
     )
     (sym (unlinked_head a.m.now a.b a.p (sym h ∙ c.if-head-p.true)))
@@ -15,7 +15,7 @@ pub returns : goal.returns
 returns c = let a = c.args in
     let h = c.cell-head.ensures.0 in
     rw (
-      c.store16-2.ensures,
+      c.store-2.ensures,
       c.previous-q.ensures.0,
       h,
       c.next_at-next.ensures.0,

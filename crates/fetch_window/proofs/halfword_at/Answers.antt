@@ -15,4 +15,4 @@ returns-then-n-i c = let a = c.args in rw (lt-leb (a.i + 2) (length a.bytes.now)
 
 pub returns : goal.returns
 unfolding halfword_at
-returns c = let a = c.args in rw (c.load16.ensures, le-leb (a.i + 2) (length a.bytes.now) (omega arith))
+returns c = let a = c.args in rw (c.load.ensures, le-leb (a.i + 2) (length a.bytes.now) (omega arith))

@@ -9,7 +9,7 @@ use Rattle.listing.proofs.count_outside.Goals as goal
 pub loop-i-preserved : goal.loop-i-preserved
 loop-i-preserved c = let b = c.args.block.now in
     let l = c.loop-i in
-    let q = rw c.load32.ensures at c.is_outside-n.ensures in
+    let q = rw c.load.ensures at c.is_outside-n.ensures in
     let w = decode (load 4 b (4 * l.i)) in
     (refl, omega arith, omega (arith, q, outside_at_most w), omega (arith, q, next-count b l.i (omega arith)))
 

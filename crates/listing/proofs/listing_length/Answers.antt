@@ -11,13 +11,13 @@ pub put_line-total-requires : goal.put_line-total-requires
 put_line-total-requires c = let b = c.args.block.now in
     let l = c.loop-i in
     let o = inside b l.i (omega arith) l.invariant.2 in
-    rw c.load32.ensures (omega (arith, line_bound (4 * l.i) (load 4 b (4 * l.i)) o.0), o.0)
+    rw c.load.ensures (omega (arith, line_bound (4 * l.i) (load 4 b (4 * l.i)) o.0), o.0)
 
 pub loop-i-preserved : goal.loop-i-preserved
 loop-i-preserved c = let b = c.args.block.now in
     let l = c.loop-i in
     let o = inside b l.i (omega arith) l.invariant.2 in
-    let p = rw c.load32.ensures at c.put_line-total.ensures in
+    let p = rw c.load.ensures at c.put_line-total.ensures in
     let n = next-length b l.i (omega arith) in (
       refl,
       omega arith,

@@ -9,12 +9,12 @@ use Rattle.listing.proofs.put_lines.Goals as goal
 pub put_line-at-requires : goal.put_line-at-requires
 put_line-at-requires c = let b = c.args.block.now in
     let l = c.loop-i in
-    rw c.load32.ensures (omega (arith, next-length b l.i (omega arith)), (inside b l.i (omega arith) l.invariant.2).0)
+    rw c.load.ensures (omega (arith, next-length b l.i (omega arith)), (inside b l.i (omega arith) l.invariant.2).0)
 
 pub loop-i-preserved : goal.loop-i-preserved
 loop-i-preserved c = let b = c.args.block.now in
     let l = c.loop-i in
-    let p = rw c.load32.ensures at c.put_line-at.ensures in
+    let p = rw c.load.ensures at c.put_line-at.ensures in
     let n = next-length b l.i (omega arith) in (
       refl,
       omega arith,

@@ -2,8 +2,8 @@ use Rattle.std.proofs.Common.{◌∙◌, sym, arith}
 use Rattle.replay.proofs.Filled.{load-filled}
 use Rattle.replay.proofs.read_header.Goals as goal
 
-pub returns-then-load64-magic-clause-left : goal.returns-then-load64-magic-clause-left
-returns-then-load64-magic-clause-left c h is =
+pub returns-then-load-magic-clause-left : goal.returns-then-load-magic-clause-left
+returns-then-load-magic-clause-left c h is =
     let e =
     load-filled
     8
@@ -15,7 +15,7 @@ returns-then-load64-magic-clause-left c h is =
     (omega (arith, h, c.read_full.ensures.count))
     (omega (arith, c.read_full.ensures.count))
     c.read_full.ensures.bytes in
-    absurd (c.if-load64-magic.true (c.load64.ensures ∙ e ∙ is))
+    absurd (c.if-load-magic.true (c.load.ensures ∙ e ∙ is))
 
 pub returns-clause-other : goal.returns-clause-other
 returns-clause-other c h is =
@@ -30,12 +30,12 @@ returns-clause-other c h is =
     (omega (arith, h, c.read_full.ensures.count))
     (omega (arith, c.read_full.ensures.count))
     c.read_full.ensures.bytes in
-    absurd (is (sym e ∙ sym c.load64.ensures ∙ c.if-load64-magic.false))
+    absurd (is (sym e ∙ sym c.load.ensures ∙ c.if-load-magic.false))
 
 pub returns-clause-left : goal.returns-clause-left
 returns-clause-left c h is =
     c.tally_of-2.ensures.left
-    ∙ c.load32.ensures
+    ∙ c.load-2.ensures
     ∙ load-filled
     4
     8
