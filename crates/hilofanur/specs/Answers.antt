@@ -4,8 +4,7 @@ use Rattle.le.specs.Le.{all_bytes}
 use Rattle.emit_native.specs.declared.Host.{Host}
 use Rattle.translator.specs.Translate as T
 use Rattle.code_cache.specs.Place as P
-use Rattle.rv64_run.specs.declared.run.Answer as RvAnswer
-use Rattle.rv64_run.specs.Run.{number, answer}
+use Rattle.rv64_run.specs.Run as Rv64
 use Rattle.a64_run.specs.Run as A64
 use Rattle.state_bytes.specs.States.{a64_state, a64_bytes, rv64_hart}
 use Rattle.hilofanur.specs.declared.TranslateAnswer.{TranslateAnswer}
@@ -16,8 +15,7 @@ use Rattle.hilofanur.specs.declared.ListAnswer.{ListAnswer}
 use Rattle.hilofanur.specs.declared.IndexPlaceAnswer.{IndexPlaceAnswer}
 use Rattle.hilofanur.specs.declared.IndexLookupAnswer.{IndexLookupAnswer}
 use Rattle.listing.specs.declared.Listed.{Listed}
-use Rattle.block_index.specs.declared.Placed.{Placed}
-use Rattle.block_index.specs.declared.Found.{Found}
+use Rattle.block_index.specs.Model.{Placed, Found}
 
 -- ---- Translate: the answer, and the output's bytes
 
@@ -56,8 +54,11 @@ pub record PlaceResult : Type 0 where
 abbrev pub place_result : PlaceAnswer → List ℕ → PlaceResult
 place_result a store = record { answer = a; store = store }
 
-abbrev pub place_of : P.Result → PlaceResult
-place_of p = place_result (record { refusal = p.answer.refusal; start = p.answer.start; used = p.answer.used }) p.store
+abbrev pub place_numbers : P.Answer → PlaceAnswer
+place_numbers a = record { refusal = a.refusal; start = a.start; used = a.used }
+
+abbrev pub place_of : P.Outcome → PlaceResult
+place_of p = place_result (place_numbers p.answer) p.store
 
 abbrev pub place : List ℕ → ℕ → List ℕ → PlaceResult
 place store used code = place_of (P.place store used code)
@@ -94,13 +95,13 @@ abbrev pub rv64_result : Rv64RunAnswer → List ℕ → Rv64Result
 rv64_result a registers = record { answer = a; registers = registers }
 
 -- a refusal leaves the registers' bytes
-abbrev pub rv64_of : List ℕ → RvAnswer.Answer → Rv64Result
+abbrev pub rv64_of : List ℕ → Rv64.Answer → Rv64Result
 rv64_of registers a =
-    rv64_result (record { refusal = number a.refusal; count = a.count; next_pc = a.hart.pc })
-    (cond (eqb (number a.refusal) 0) (all_bytes 8 a.hart.x) registers)
+    rv64_result (record { refusal = Rv64.number a.refusal; count = a.count; next_pc = a.hart.pc })
+    (cond (eqb (Rv64.number a.refusal) 0) (all_bytes 8 a.hart.x) registers)
 
 abbrev pub rv64_run : List ℕ → ℕ → ℕ → Bool → List ℕ → Rv64Result
-rv64_run guest pc limit e registers = rv64_of registers (answer guest (rv64_hart registers pc) limit e)
+rv64_run guest pc limit e registers = rv64_of registers (Rv64.answer guest (rv64_hart registers pc) limit e)
 
 -- ---- List: the answer by the names of the operation
 

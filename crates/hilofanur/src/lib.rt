@@ -9,9 +9,14 @@ ghost use Rattle.translation.specs.Size.{Size};
 ghost use Rattle.listing.specs.Listing.{Lists};
 ghost use Rattle.block_log.specs.Log.{emptied};
 ghost use Rattle.block_index.specs.History.{Looks, Places};
+ghost use Rattle.block_index.specs.Model as Model;
+ghost use Rattle.code_cache.specs.Place as P;
 ghost use Rattle.hilofanur.specs.Answers as Answers;
 
+use block_log::Entry;
+use code_cache::Placed;
 use emit_native::Host;
+use rules::refusals::Refusal;
 use state_bytes::{a64_state, rv64_hart};
 
 // The refusal, 0 where the block was written; its length in bytes; its count of instructions; the number of its end kind.
@@ -31,6 +36,25 @@ pub struct PlaceAnswer {
     pub refusal: u64,
     pub start: u64,
     pub used: u64,
+}
+
+impl From<Result<Placed, Refusal>> for PlaceAnswer {
+    ghost from_gives = { λ r a. a ≡ Answers.place_numbers (P.answer r) };
+
+    fn from(answer: Result<Placed, Refusal>) -> PlaceAnswer {
+        match answer {
+            Ok(placed) => PlaceAnswer {
+                refusal: 0,
+                start: placed.start,
+                used: placed.used,
+            },
+            Err(refusal) => PlaceAnswer {
+                refusal: u64::from(refusal),
+                start: 0,
+                used: 0,
+            },
+        }
+    }
 }
 
 // The refusal; the end's number, 0 where refused; the steps done.
@@ -68,6 +92,20 @@ pub struct IndexPlaceAnswer {
     pub start: u64,
 }
 
+impl From<Result<u64, Refusal>> for IndexPlaceAnswer {
+    ghost from_gives = { λ r a. Answers.placed a ≡ Model.place_answer r };
+
+    fn from(answer: Result<u64, Refusal>) -> IndexPlaceAnswer {
+        match answer {
+            Ok(start) => IndexPlaceAnswer { refusal: 0, start },
+            Err(refusal) => IndexPlaceAnswer {
+                refusal: u64::from(refusal),
+                start: 0,
+            },
+        }
+    }
+}
+
 // The refusal, 0 where the block was found; where its code starts in the store, its length, its count of guest instructions.
 #[repr(C)]
 #[derive(Drop)]
@@ -76,6 +114,27 @@ pub struct IndexLookupAnswer {
     pub start: u64,
     pub length: u64,
     pub count: u64,
+}
+
+impl From<Result<Entry, Refusal>> for IndexLookupAnswer {
+    ghost from_gives = { λ r a. Answers.found a ≡ Model.lookup_answer r };
+
+    fn from(answer: Result<Entry, Refusal>) -> IndexLookupAnswer {
+        match answer {
+            Ok(e) => IndexLookupAnswer {
+                refusal: 0,
+                start: e.start,
+                length: e.length,
+                count: u64::from(e.count),
+            },
+            Err(refusal) => IndexLookupAnswer {
+                refusal: u64::from(refusal),
+                start: 0,
+                length: 0,
+                count: 0,
+            },
+        }
+    }
 }
 
 #[unsafe(no_mangle)]
@@ -123,12 +182,7 @@ pub extern "C" fn hilofanur_translate(
 pub extern "C" fn hilofanur_place(store: &mut [u8], used: u64, code: &[u8]) -> PlaceAnswer
     ensures { Answers.place_result result store.new ≡ Answers.place store.old used code.now }
 {
-    let placed = code_cache::place(store, used, code);
-    PlaceAnswer {
-        refusal: placed.refusal,
-        start: placed.start,
-        used: placed.used,
-    }
+    PlaceAnswer::from(code_cache::place(store, used, code))
 }
 
 // state: X0 to X30, SP and NZCV, eight bytes each.
@@ -160,21 +214,20 @@ pub extern "C" fn hilofanur_a64_run_from(
     ensures { Answers.a64_result result state.new memory.new ≡ Answers.a64_run_from block.now address first state.old budget memory.old base }
 {
     let before = a64_state::from_bytes(state);
-    let answer = a64_run::run::a64_run_from(block, address, first, before, budget, memory, base);
-    let refusal = answer.refusal;
-    if refusal != 0 {
-        return A64RunAnswer {
-            refusal: refusal,
-            end: answer.end,
-            steps: answer.steps,
-        };
-    }
-    let after = answer.state;
-    a64_state::to_bytes(after, state);
-    A64RunAnswer {
-        refusal: refusal,
-        end: answer.end,
-        steps: answer.steps,
+    match a64_run::run::a64_run_from(block, address, first, before, budget, memory, base) {
+        Ok(ran) => {
+            a64_state::to_bytes(ran.state, state);
+            A64RunAnswer {
+                refusal: 0,
+                end: u32::from(ran.end),
+                steps: ran.steps,
+            }
+        }
+        Err(refused) => A64RunAnswer {
+            refusal: u32::from(refused.refusal),
+            end: 0,
+            steps: 0,
+        },
     }
 }
 
@@ -190,23 +243,20 @@ pub extern "C" fn hilofanur_rv64_run(
     ensures { Answers.rv64_result result registers.new ≡ Answers.rv64_run guest.now pc limit ignore_ebreak registers.old }
 {
     let before = rv64_hart::from_bytes(registers, pc);
-    let answer = rv64_run::run::rv64_run(guest, before, limit, ignore_ebreak);
-    let why = answer.refusal;
-    let refusal = rv64_run::run::number(why);
-    let after = answer.hart;
-    let next_pc = after.pc;
-    if refusal != 0 {
-        return Rv64RunAnswer {
-            refusal: refusal,
-            count: answer.count,
-            next_pc: next_pc,
-        };
-    }
-    rv64_hart::to_bytes(after, registers);
-    Rv64RunAnswer {
-        refusal: refusal,
-        count: answer.count,
-        next_pc: next_pc,
+    match rv64_run::run::rv64_run(guest, before, limit, ignore_ebreak) {
+        Ok(ran) => {
+            rv64_hart::to_bytes(ran.hart, registers);
+            Rv64RunAnswer {
+                refusal: 0,
+                count: ran.count,
+                next_pc: ran.hart.pc,
+            }
+        }
+        Err(refused) => Rv64RunAnswer {
+            refusal: u32::from(refused.refusal),
+            count: 0,
+            next_pc: 0,
+        },
     }
 }
 
@@ -241,11 +291,7 @@ pub extern "C" fn hilofanur_index_place(
 ) -> IndexPlaceAnswer
     ensures { Places index.old store.old space pc count code.now (Answers.placed result) index.new store.new }
 {
-    let answer = block_index::place(index, store, space, pc, count, code);
-    IndexPlaceAnswer {
-        refusal: answer.refusal,
-        start: answer.start,
-    }
+    IndexPlaceAnswer::from(block_index::place(index, store, space, pc, count, code))
 }
 
 #[unsafe(no_mangle)]
@@ -256,11 +302,5 @@ pub extern "C" fn hilofanur_index_lookup(
 ) -> IndexLookupAnswer
     ensures { Looks index.now space pc (Answers.found result) }
 {
-    let found = block_index::lookup(index, space, pc);
-    IndexLookupAnswer {
-        refusal: found.refusal,
-        start: found.start,
-        length: found.length,
-        count: found.count,
-    }
+    IndexLookupAnswer::from(block_index::lookup(index, space, pc))
 }

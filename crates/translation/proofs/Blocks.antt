@@ -17,7 +17,7 @@ use Rattle.isa.specs.declared.decode.Decoded32.{Decoded32}
 use Rattle.rv64.specs.declared.decode.Instr.{Instr}
 use Rattle.rv64.specs.declared.execute.Flow.{Flow}
 use Rattle.rv64_run.specs.declared.run.Hart.{Hart}
-use Rattle.rv64_run.specs.declared.run.Fetched as RF
+use Rattle.std.specs.Prelude.{Some, None}
 use Rattle.rv64_run.specs.declared.run.Stop as RS
 use Rattle.rv64_run.specs.declared.run.Ran.{Ran}
 use Rattle.rv64.specs.Execute.{exec}
@@ -349,7 +349,7 @@ module _ (r₀ : ℕ → ℕ) (start : ℕ) (host : Host) (guest : List ℕ) whe
       → w < 2 ^ 16 → u < 2 ^ 32 → Kept r₀ true v
       → ((size : ℕ) → size % 2 ≡ 0 → Follows (i + size) (walk product host guest start (left size) (suc n) (i + size)) (run size))
       → Follow (instr_walk product host (found a b c w u) start n i (walk product host guest start (behind (found a b c w u) left))) v
-      (Rv64.step (cond (not a) RF.Fetched.Missing (cond (not b) (RF.Fetched.Found (C.decode16 host.ignore_ebreak w) 2) (cond (not c) RF.Fetched.Missing (RF.Fetched.Found (D.decode32 u) 4)))) (Rv64.hart v.slots (add start i)) n run)
+      (Rv64.step (cond (not a) None (cond (not b) (Some (C.decode16 host.ignore_ebreak w, 2)) (cond (not c) None (Some (D.decode32 u, 4))))) (Rv64.hart v.slots (add start i)) n run)
   unfolding instr_walk behind emit_inline zbb_of zbb_first emit_native emit_term_helper Rv64.step next_calls
   instr_walks false b c w u qw qu i n fe v left run hw hu κ go = inl (stop_walks [] n (add start i) Stop.NotFetched RS.Stop.NotFetched v refl nothing (omega arith))
   instr_walks true false c w u qw qu i n fe v left run hw hu κ go =
