@@ -162,12 +162,19 @@ pub extern "C" fn hilofanur_translate(
         helper16,
         ignore_ebreak,
     };
-    let a = translation::translate(guest, pc, limit, host, output);
-    TranslateAnswer {
-        refusal: a.refusal,
-        length: a.length,
-        count: a.count,
-        end: a.end,
+    match translation::translate(guest, pc, limit, host, output) {
+        Ok(block) => TranslateAnswer {
+            refusal: 0,
+            length: block.length,
+            count: block.count,
+            end: u32::from(block.end),
+        },
+        Err(refusal) => TranslateAnswer {
+            refusal: u32::from(refusal),
+            length: 0,
+            count: 0,
+            end: 0,
+        },
     }
 }
 
