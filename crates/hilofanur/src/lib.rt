@@ -232,6 +232,7 @@ pub extern "C" fn hilofanur_a64_run_from(
 }
 
 // registers: the 32 of them, eight bytes each.
+#[tactic(auto, unfolding(rv64_run::specs::Run::number))]
 #[unsafe(no_mangle)]
 pub extern "C" fn hilofanur_rv64_run(
     guest: &[u8],
