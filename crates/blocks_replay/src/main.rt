@@ -26,10 +26,6 @@ fn ask(guest: &[u8], asked: &[u8; 49], output: &mut [u8]) -> Result<Translated, 
     )
 }
 
-fn wide(b: u8) -> u32 {
-    b as u32
-}
-
 // Whether the recorded answer is this one; `found` is what the file has between the question and the words.
 fn same_answer(answer: Result<Translated, Refusal>, found: &[u8; 5]) -> bool {
     let (refusal, end, count, length) = match answer {
