@@ -38,8 +38,6 @@ pub enum Found {
     Number(Zbb, u64),
     // none
     Unary(Zbb),
-    // no Zbb instruction
-    Nothing,
 }
 
 // funct7, funct3 and the opcode, side by side; the same of funct12, and of funct6.

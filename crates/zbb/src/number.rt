@@ -15,7 +15,7 @@ use emit_native::{Emitted, InstrEmitter};
 // RORIW.
 #[tactic(auto, unfolding(crate::specs::Emission::emission, crate::specs::Words::zbb_body))]
 pub fn emit_roriw(em: InstrEmitter<'_>, instr: u32) -> Emitted<'_>
-    ensures { answer result ≡ emitted (held em.entry) (emission (Found.Number Zbb.Rorw (inst 24 20 instr)) instr) }
+    ensures { answer result ≡ emitted (held em.entry) (emission (Some (Found.Number Zbb.Rorw (inst 24 20 instr))) instr) }
 {
     let n = (instr / 0x10_0000 % 32) as u64;
     let em = load_number(em, instr, n);
