@@ -14,6 +14,7 @@ use crate::number::emit_rori;
 use crate::parts::{emit_bytes_of, emit_low_word, emit_ones, emit_shifted, emit_trailing};
 use a64_emitter::A64Emitter;
 use emit_native::{Emitted, InstrEmitter};
+use isa::zbb::{FUNCT12, key};
 
 // CLZ, REV8: a body of one word.
 fn one(em: InstrEmitter<'_>, instr: u32, w: u32) -> Emitted<'_>
@@ -120,7 +121,7 @@ pub fn emit_unary(em: InstrEmitter<'_>, instr: u32) -> Emitted<'_>
     ensures emits { answer result ≡ emitted (held em.entry) (emission (unary_of instr) instr) }
     ensures words_unchanged { result.flow ≡ None → result.em.words.now ≡ em.entry.words.now }
 {
-    match isa::zbb::funct12_key(instr) {
+    match key::<FUNCT12>(instr) {
         // CLZ, CTZ, CPOP
         0b011000000000_001_0010011 => {
             let w = A64Emitter::clz_x(11, 9);
