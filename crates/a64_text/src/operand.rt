@@ -46,7 +46,7 @@ fn put_x_sp(out: &mut [u8], at: usize, n: u32) -> usize
     if n != 31 {
         return put_numbered(out, at, n);
     }
-    ascii::put16(out, at, 0x7073)
+    ascii::put::<u16>(out, at, 0x7073)
 }
 
 // A register by its number.
@@ -58,10 +58,10 @@ pub fn put_register(out: &mut [u8], at: usize, n: u32) -> usize
         return put_numbered(out, at, n);
     }
     if n == 31 {
-        let at = ascii::put16(out, at, 0x7A78);
+        let at = ascii::put::<u16>(out, at, 0x7A78);
         return ascii::put_byte(out, at, b'r');
     }
-    ascii::put16(out, at, 0x7073)
+    ascii::put::<u16>(out, at, 0x7073)
 }
 
 // The same after a comma and a blank, where there is one.
@@ -72,7 +72,7 @@ pub fn put_further(out: &mut [u8], at: usize, n: u32) -> usize
     if n == NONE {
         return at;
     }
-    let at = ascii::put16(out, at, 0x202C);
+    let at = ascii::put::<u16>(out, at, 0x202C);
     put_register(out, at, n)
 }
 
@@ -80,7 +80,7 @@ fn put_immediate(out: &mut [u8], at: usize, n: u32) -> usize
     requires { (at + length (ascii ", #" ++ decimal n) ≤ length out.old) × (n < 100000) }
     ensures { Put out.old at (ascii ", #" ++ decimal n) out.new result }
 {
-    let at = ascii::put16(out, at, 0x202C);
+    let at = ascii::put::<u16>(out, at, 0x202C);
     let at = ascii::put_byte(out, at, b'#');
     ascii::put_decimal(out, at, n)
 }
@@ -90,8 +90,8 @@ fn put_shifted(out: &mut [u8], at: usize, n: u32, amount: u32) -> usize
     ensures { Put out.old at (ascii ", #" ++ (decimal n ++ (ascii ", lsl #" ++ decimal amount))) out.new result }
 {
     let at = put_immediate(out, at, n);
-    let at = ascii::put32(out, at, 0x736C_202C);
-    let at = ascii::put16(out, at, 0x206C);
+    let at = ascii::put::<u32>(out, at, 0x736C_202C);
+    let at = ascii::put::<u16>(out, at, 0x206C);
     let at = ascii::put_byte(out, at, b'#');
     ascii::put_short(out, at, amount)
 }
@@ -100,7 +100,7 @@ fn put_memory(out: &mut [u8], at: usize, n: u32, offset: u32) -> usize
     requires { (at + length (ascii ", [" ++ (register "sp" n ++ (ascii ", #" ++ (decimal offset ++ ascii "]")))) ≤ length out.old) × (n < 100) × (offset < 100000) }
     ensures { Put out.old at (ascii ", [" ++ (register "sp" n ++ (ascii ", #" ++ (decimal offset ++ ascii "]")))) out.new result }
 {
-    let at = ascii::put16(out, at, 0x202C);
+    let at = ascii::put::<u16>(out, at, 0x202C);
     let at = ascii::put_byte(out, at, b'[');
     let at = put_x_sp(out, at, n);
     let at = put_immediate(out, at, offset);
@@ -137,16 +137,16 @@ pub fn put_rest(out: &mut [u8], at: usize, rest: Rest) -> usize
 {
     match rest {
         Rest::None => at,
-        Rest::Lsl0 => ascii::put64(out, at, 0x3023_206C_736C_202C),
+        Rest::Lsl0 => ascii::put::<u64>(out, at, 0x3023_206C_736C_202C),
         Rest::Xzr => {
-            let at = ascii::put32(out, at, 0x7A78_202C);
+            let at = ascii::put::<u32>(out, at, 0x7A78_202C);
             ascii::put_byte(out, at, b'r')
         }
         Rest::Shifted(n, amount) => put_shifted(out, at, n, amount),
         Rest::Memory(n, offset) => put_memory(out, at, n, offset),
         Rest::Condition(c) => {
-            let at = ascii::put16(out, at, 0x202C);
-            ascii::put16(out, at, condition(c))
+            let at = ascii::put::<u16>(out, at, 0x202C);
+            ascii::put(out, at, condition(c))
         }
         Rest::Fields(a, b) => {
             let at = put_immediate(out, at, a);

@@ -11,7 +11,7 @@ fn put_mnemonic(out: &mut [u8], at: usize, m: u64) -> usize
     requires { (at + length (mnemonic_bytes m) ≤ length out.old) × (m < 2 ^ 48) }
     ensures { Put out.old at (mnemonic_bytes m) out.new result }
 {
-    let at = ascii::put32(out, at, (m % 0x1_0000_0000) as u32);
+    let at = ascii::put(out, at, (m % 0x1_0000_0000) as u32);
     let rest = m / 0x1_0000_0000;
     if rest == 0 {
         return at;
@@ -19,7 +19,7 @@ fn put_mnemonic(out: &mut [u8], at: usize, m: u64) -> usize
     if rest < 0x100 {
         return ascii::put_byte(out, at, rest as u8);
     }
-    ascii::put16(out, at, rest as u16)
+    ascii::put(out, at, rest as u16)
 }
 
 pub fn put_text(out: &mut [u8], at: usize, f: Form) -> usize

@@ -6,6 +6,8 @@ ghost use Rattle.le.specs.Le.{bytes};
 ghost use Rattle.ascii.specs.Ascii.{digit, hex, decimal};
 ghost use Rattle.ascii.specs.Parts.{Put};
 
+use le::Number;
+
 pub fn put_byte(out: &mut [u8], at: usize, b: u8) -> usize
     requires { at + 1 ≤ length out.old }
     ensures { Put out.old at (b ∷ []) out.new result }
@@ -14,46 +16,28 @@ pub fn put_byte(out: &mut [u8], at: usize, b: u8) -> usize
     at + 1
 }
 
-// Two, four and eight bytes, the lowest of v first.
-pub fn put16(out: &mut [u8], at: usize, v: u16) -> usize
-    requires { at + 2 ≤ length out.old }
-    ensures { Put out.old at (bytes 2 v) out.new result }
+// The bytes of v, the lowest first.
+pub fn put<N: Number>(out: &mut [u8], at: usize, v: N) -> usize
+    requires { at + N.WIDTH ≤ length out.old }
+    ensures { Put out.old at (bytes N.WIDTH (N.value v)) out.new result }
 {
     le::store(out, at, v);
-    at + 2
-}
-
-pub fn put32(out: &mut [u8], at: usize, v: u32) -> usize
-    requires { at + 4 ≤ length out.old }
-    ensures { Put out.old at (bytes 4 v) out.new result }
-{
-    le::store(out, at, v);
-    at + 4
-}
-
-pub fn put64(out: &mut [u8], at: usize, v: u64) -> usize
-    requires { at + 8 ≤ length out.old }
-    ensures { Put out.old at (bytes 8 v) out.new result }
-{
-    le::store(out, at, v);
-    at + 8
+    at + N::WIDTH
 }
 
 fn digit(d: u32) -> u8
     requires { d < 16 }
     ensures { result ≡ digit d }
 {
-    if d < 10 {
-        return (48 + d) as u8;
-    }
-    (87 + d) as u8
+    let first = if d < 10 { 48 } else { 87 };
+    (first + d) as u8
 }
 
 // The eight digits of v as the bytes of a number, the first the lowest.
 fn hex_digits(v: u32) -> u64
     ensures { bytes 8 result ≡ hex 8 v }
 {
-    let v = v as u64;
+    let v = u64::from(v);
     // Each byte in a lane of 16 bits, each half of it in one of 8, and 39 more for a letter.
     let low = v % 0x100 * 0x1_0000 + v / 0x100 % 0x100;
     let b = (low * 0x1_0000 + v / 0x1_0000 % 0x100) * 0x1_0000 + v / 0x100_0000;
@@ -66,7 +50,7 @@ pub fn put_hex8(out: &mut [u8], at: usize, v: u32) -> usize
     requires { at + 8 ≤ length out.old }
     ensures { Put out.old at (hex 8 v) out.new result }
 {
-    put64(out, at, hex_digits(v))
+    put(out, at, hex_digits(v))
 }
 
 // Two decimal digits.

@@ -7,8 +7,8 @@ use Rattle.a64_text.proofs.operand.put_further.Goals as goal
 pub returns-then-n-eq-NONE : goal.returns-then-n-eq-NONE
 returns-then-n-eq-NONE c = rw (further-none _ c.if-n-eq-NONE.true) (nothing _ _ (omega arith))
 
-pub put16-at-requires : goal.put16-at-requires
-put16-at-requires c = let h = rw (further-some _ c.if-n-eq-NONE.false) at c.requires.0 in omega arith
+pub put-at-requires : goal.put-at-requires
+put-at-requires c = let h = rw (further-some _ c.if-n-eq-NONE.false) at c.requires.0 in omega arith
 
 pub put_register-requires : goal.put_register-requires
 unfolding bytes
@@ -16,4 +16,4 @@ put_register-requires c = let h = rw (further-some _ c.if-n-eq-NONE.false) at c.
 
 pub returns : goal.returns
 unfolding bytes
-returns c = rw (further-some _ c.if-n-eq-NONE.false) (then c.put16-at.ensures c.put_register.ensures)
+returns c = rw (further-some _ c.if-n-eq-NONE.false) (then c.put-at.ensures c.put_register.ensures)

@@ -15,4 +15,4 @@ put_decimal-requires c = (omega (arith, simp length-append at c.requires.0), sea
 
 pub returns : goal.returns
 unfolding bytes
-returns c = then c.put16-at.ensures (then c.put_byte-at.ensures c.put_decimal.ensures)
+returns c = then c.put-at.ensures (then c.put_byte-at.ensures c.put_decimal.ensures)

@@ -23,4 +23,4 @@ put_byte-requires c = omega (arith, simp length-append at c.requires.0)
 
 pub returns : goal.returns
 unfolding bytes
-returns c = then c.put16-at.ensures (then c.put_byte-at.ensures (then c.put_x_sp-at.ensures (then c.put_immediate-at.ensures c.put_byte.ensures)))
+returns c = then c.put-at.ensures (then c.put_byte-at.ensures (then c.put_x_sp-at.ensures (then c.put_immediate-at.ensures c.put_byte.ensures)))

@@ -13,9 +13,9 @@ put_numbered-requires c = (rw (numbered _ c.if-n-lt31.true) at c.requires.0, sea
 pub returns-then-n-lt31 : goal.returns-then-n-lt31
 returns-then-n-lt31 c = rw (numbered _ c.if-n-lt31.true) c.put_numbered.ensures
 
-pub put16-at-requires : goal.put16-at-requires
+pub put-at-requires : goal.put-at-requires
 unfolding operand register
-put16-at-requires c = let h = rw c.if-n-eq31.true at c.requires.0 in omega arith
+put-at-requires c = let h = rw c.if-n-eq31.true at c.requires.0 in omega arith
 
 pub put_byte-requires : goal.put_byte-requires
 unfolding operand register bytes
@@ -23,12 +23,12 @@ put_byte-requires c = let h = rw c.if-n-eq31.true at c.requires.0 in omega arith
 
 pub returns-then-n-eq31 : goal.returns-then-n-eq31
 unfolding operand register bytes
-returns-then-n-eq31 c = rw c.if-n-eq31.true (then c.put16-at.ensures c.put_byte.ensures)
+returns-then-n-eq31 c = rw c.if-n-eq31.true (then c.put-at.ensures c.put_byte.ensures)
 
-pub put16-requires : goal.put16-requires
+pub put-requires : goal.put-requires
 unfolding operand register
-put16-requires c = let s : c.args.n ≡ 32 = omega arith in let h = rw s at c.requires.0 in omega arith
+put-requires c = let s : c.args.n ≡ 32 = omega arith in let h = rw s at c.requires.0 in omega arith
 
 pub returns : goal.returns
 unfolding operand register bytes
-returns c = let s : c.args.n ≡ 32 = omega arith in rw s c.put16.ensures
+returns c = let s : c.args.n ≡ 32 = omega arith in rw s c.put.ensures

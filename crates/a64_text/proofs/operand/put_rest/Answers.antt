@@ -8,13 +8,13 @@ use Rattle.a64_text.specs.Text.{further}
 use Rattle.a64_text.proofs.Texts.{shifted, memory, condition-text, condition-length, fields}
 use Rattle.a64_text.proofs.operand.put_rest.Goals as goal
 
-pub put64-requires : goal.put64-requires
+pub put-requires : goal.put-requires
 unfolding further operand register decimal_in bytes
-put64-requires c = let h = rw c.in-Lsl0.is at c.requires in omega arith
+put-requires c = let h = rw c.in-Lsl0.is at c.requires in omega arith
 
-pub put32-at-requires : goal.put32-at-requires
+pub put-at-requires : goal.put-at-requires
 unfolding further operand register decimal_in bytes
-put32-at-requires c = let h = rw c.in-Xzr.is at c.requires in omega arith
+put-at-requires c = let h = rw c.in-Xzr.is at c.requires in omega arith
 
 pub put_byte-requires : goal.put_byte-requires
 unfolding further operand register decimal_in bytes
@@ -26,12 +26,12 @@ put_shifted-requires c = let h = rw c.in-Shifted.is at c.requires in (rw (shifte
 pub put_memory-requires : goal.put_memory-requires
 put_memory-requires c = let h = rw c.in-Memory.is at c.requires in (rw (memory _ _) at h.0, h.1.0, h.1.1)
 
-pub put16-at-requires : goal.put16-at-requires
-put16-at-requires c = let h = rw c.in-Condition.is at c.requires in let k = rw (condition-text _) at h.0 in omega arith
+pub put-at-requires-in-Condition : goal.put-at-requires-in-Condition
+put-at-requires-in-Condition c = let h = rw c.in-Condition.is at c.requires in let k = rw (condition-text _) at h.0 in omega arith
 
-pub put16-requires : goal.put16-requires
+pub put-requires-in-Condition : goal.put-requires-in-Condition
 unfolding bytes
-put16-requires c = let h = rw c.in-Condition.is at c.requires in let k = rw condition-length at (rw (condition-text _) at h.0) in omega arith
+put-requires-in-Condition c = let h = rw c.in-Condition.is at c.requires in let k = rw condition-length at (rw (condition-text _) at h.0) in omega arith
 
 pub put_immediate-at-requires : goal.put_immediate-at-requires
 put_immediate-at-requires c = let h = rw c.in-Fields.is at c.requires in (omega (arith, simp length-append at (rw (fields _ _) at h.0)), omega arith)
@@ -45,11 +45,11 @@ returns-in-None c = rw c.in-None.is (nothing _ _ (omega arith))
 
 pub returns-in-Lsl0 : goal.returns-in-Lsl0
 unfolding further operand register decimal_in bytes
-returns-in-Lsl0 c = rw c.in-Lsl0.is c.put64.ensures
+returns-in-Lsl0 c = rw c.in-Lsl0.is c.put.ensures
 
 pub returns-in-Xzr : goal.returns-in-Xzr
 unfolding further operand register decimal_in bytes
-returns-in-Xzr c = rw c.in-Xzr.is (then c.put32-at.ensures c.put_byte.ensures)
+returns-in-Xzr c = rw c.in-Xzr.is (then c.put-at.ensures c.put_byte.ensures)
 
 pub returns-in-Shifted : goal.returns-in-Shifted
 returns-in-Shifted c = rw (c.in-Shifted.is, shifted _ _) c.put_shifted.ensures
@@ -59,7 +59,7 @@ returns-in-Memory c = rw (c.in-Memory.is, memory _ _) c.put_memory.ensures
 
 pub returns-in-Condition : goal.returns-in-Condition
 unfolding bytes
-returns-in-Condition c = rw (c.in-Condition.is, condition-text _, ← c.condition.ensures) (then c.put16-at.ensures c.put16.ensures)
+returns-in-Condition c = rw (c.in-Condition.is, condition-text _, ← c.condition.ensures) (then c.put-at-in-Condition.ensures c.put-in-Condition.ensures)
 
 pub returns-in-Fields : goal.returns-in-Fields
 returns-in-Fields c = rw (c.in-Fields.is, fields _ _) (then c.put_immediate-at.ensures c.put_immediate.ensures)

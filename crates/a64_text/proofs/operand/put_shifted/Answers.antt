@@ -5,9 +5,9 @@ use Rattle.ascii.proofs.Writing.{then}
 use Rattle.le.specs.Le.{bytes}
 use Rattle.a64_text.proofs.operand.put_shifted.Goals as goal
 
-pub put16-at-requires : goal.put16-at-requires
+pub put-at-requires-2 : goal.put-at-requires-2
 unfolding bytes
-put16-at-requires c = omega (arith, simp length-append at c.requires.0)
+put-at-requires-2 c = omega (arith, simp length-append at c.requires.0)
 
 pub put_byte-at-requires : goal.put_byte-at-requires
 unfolding bytes
@@ -19,4 +19,4 @@ put_short-requires c = (omega (arith, simp length-append at c.requires.0), searc
 
 pub returns : goal.returns
 unfolding bytes
-returns c = then c.put_immediate-at.ensures (then c.put32-at.ensures (then c.put16-at.ensures (then c.put_byte-at.ensures c.put_short.ensures)))
+returns c = then c.put_immediate-at.ensures (then c.put-at.ensures (then c.put-at-2.ensures (then c.put_byte-at.ensures c.put_short.ensures)))
