@@ -1,6 +1,6 @@
 -- The rows of the table, by how many registers they begin with. Assumes nothing.
 use mathlib.Core.Path.{◌≡◌, refl}
-use mathlib.Core.List.{[], ◌∷◌, ◌++◌}
+use mathlib.Core.List.{◌∷◌, ◌++◌}
 use Prim.Native.Nat.{ℕ, ◌^◌, ◌<◌}
 use Rattle.std.specs.Prelude.{Some, None}
 use Prim.Native.String.{String}
@@ -10,7 +10,7 @@ use Rattle.ascii.specs.Ascii.{ascii}
 use Rattle.a64_text.specs.declared.operand.Rest.{Rest}
 use Rattle.a64_text.specs.Operands.{X, XSP}
 use Rattle.a64_text.specs.Text.{syntax_of}
-use Rattle.a64_text.specs.Parts.{register_operand, further_register, rest_operands, Small, mnemonic_bytes, Assembles}
+use Rattle.a64_text.specs.Parts.{register_operand, rest_operands, Small, mnemonic_bytes, Assembles}
 
 first-register : (n : ℕ) → n < 32 → register_operand n ≡ X n
 first-register n h = rw (ne_eqb n 32 (λ e. omega arith))
