@@ -10,7 +10,7 @@ ghost use Rattle.a64_text.specs.Parts.{Small, Register, register_operand, furthe
 use ascii::Writer;
 
 // A register's number: 31 is xzr, the one after it sp.
-// Kept: numbers, which miss no bar of speed; with each operand as an enum a listing takes 1.4 times the time.
+// Kept: tried, misses the bar of speed: with each operand as an enum a listing takes 1.4 times the time.
 pub const SP: u32 = 32;
 
 // What stands after the registers.
@@ -109,6 +109,7 @@ fn put_memory(out: &mut Writer, n: u32, offset: u32)
 }
 
 // The two letters of a condition, the first lowest.
+// Kept: numbers here and in the mnemonics, by the bar of speed: their bytes are written at once.
 fn condition(c: u32) -> u16
     ensures { bytes 2 result ≡ ascii (condition c) }
 {
