@@ -3,6 +3,7 @@ use mathlib.Core.Path.{◌≡◌, refl}
 use mathlib.Core.List.{List, [], ◌∷◌, ◌++◌, append_assoc, append-nil}
 use Prim.Native.Nat.{ℕ, zero, suc, ◌+◌, ◌<◌, ◌≤◌}
 use Prim.Native.String.{String}
+use Rattle.std.specs.Prelude.{Some, None}
 use native.Mathlib.Omega.{arith}
 use lib.ListN.{length, get_or}
 use borrow.Author.Tests.{ne_eqb}
@@ -19,13 +20,13 @@ pub numbered : (n : ℕ) → n < 31 → operand (register_operand n) ≡ ascii "
 unfolding operand register
 numbered n h = rw (ne_eqb n 32 (λ e. omega arith), ne_eqb n 31 (λ e. omega arith))
 
-pub further-none : (n : ℕ) → n ≡ 33 → further (further_register n) ≡ []
+pub further-none : further (further_register None) ≡ []
 unfolding further
-further-none n e = rw e
+further-none = refl
 
-pub further-some : (n : ℕ) → (n ≡ 33 → ⊥) → further (further_register n) ≡ ascii ", " ++ operand (register_operand n)
+pub further-some : (n : ℕ) → further (further_register (Some n)) ≡ ascii ", " ++ operand (register_operand n)
 unfolding further
-further-some n h = rw (ne_eqb n 33 h, append-nil)
+further-some n = rw append-nil
 
 pub shifted : (n k : ℕ) → further (Imm n ∷ LSL k ∷ []) ≡ ascii ", #" ++ (decimal n ++ (ascii ", lsl #" ++ decimal k))
 unfolding further operand

@@ -1,8 +1,8 @@
 -- What the functions of this crate promise one another; no operation's contract reaches it.
-use Rattle.std.specs.Prelude.{ℕ, ◌^◌, ◌<◌, ◌≡◌, List, [], ◌∷◌, ◌++◌, cond, eqb, ltb}
+use Rattle.std.specs.Prelude.{ℕ, ◌^◌, ◌<◌, ◌≡◌, List, [], ◌∷◌, ◌++◌, cond, eqb, ltb, Option, Some, None}
 use Rattle.le.specs.Le.{bytes}
 use Rattle.a64_text.specs.declared.operand.Rest.{Rest}
-use Rattle.a64_text.specs.declared.operand.Rest.TheVariants.{None, Lsl0, Xzr, Shifted, Memory, Condition, Fields}
+use Rattle.a64_text.specs.declared.operand.Rest.TheVariants.{Lsl0, Xzr, Shifted, Memory, Condition, Fields}
 use Rattle.a64_text.specs.declared.assembly.Assembled.{Assembled}
 use Rattle.a64.specs.declared.Form.{Form}
 use Rattle.a64.specs.declared.Form.TheVariants.{Unreadable}
@@ -15,13 +15,18 @@ use Rattle.a64_text.specs.Text.{Syntax}
 abbrev pub register_operand : ℕ → Operand
 register_operand n = cond (eqb n 32) (XSP 31) (X n)
 
--- 33 is none
-abbrev pub further_register : ℕ → List Operand
-further_register n = cond (eqb n 33) [] (register_operand n ∷ [])
+abbrev pub further_register : Option ℕ → List Operand
+further_register None = []
+further_register (Some n) = register_operand n ∷ []
+
+-- a register's number, where there is one
+abbrev pub Register : Option ℕ → Type 0
+Register None = Unit {0}
+Register (Some n) = n < 33
 
 -- the operands after the registers
 abbrev pub rest_operands : Rest → List Operand
-rest_operands None = []
+rest_operands Rest.None = []
 rest_operands Lsl0 = LSL 0 ∷ []
 rest_operands Xzr = X 31 ∷ []
 rest_operands (Shifted n k) = Imm n ∷ LSL k ∷ []
@@ -31,7 +36,7 @@ rest_operands (Fields a b) = Imm a ∷ Imm b ∷ []
 
 -- their numbers have at most five digits
 abbrev pub Small : Rest → Type 0
-Small None = Unit {0}
+Small Rest.None = Unit {0}
 Small Lsl0 = Unit {0}
 Small Xzr = Unit {0}
 Small (Shifted n k) = (n < 100000) × (k < 100)
@@ -53,7 +58,7 @@ pub record Assembles (a : Assembled) (s : Syntax) : Type 0 where
   pub short : a.mnemonic < 2 ^ 48
   pub first : register_operand a.first ≡ s.first
   pub more : further_register a.second ++ (further_register a.third ++ rest_operands a.rest) ≡ s.more
-  pub registers : (a.first < 33) × (a.second < 34) × (a.third < 34)
+  pub registers : (a.first < 33) × Register a.second × Register a.third
   pub small : Small a.rest
 
 -- a form that has a text, with fields that fit

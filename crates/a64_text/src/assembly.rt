@@ -4,7 +4,7 @@ ghost use Rattle.a64_text.specs.Operands.{X};
 ghost use Rattle.a64_text.specs.Text.{syntax, op_syntax, op1_syntax};
 ghost use Rattle.a64_text.specs.Parts.{Assembles, Readable};
 
-use crate::operand::{NONE, Rest, SP};
+use crate::operand::{Rest, SP};
 use a64::{Form, Op, Op1};
 
 // Mnemonics with a blank after them: their bytes, of which the lowest is the first.
@@ -69,12 +69,12 @@ const RET: u64 = 0x2074_6572;
 pub struct Assembled {
     pub mnemonic: u64,
     pub first: u32,
-    pub second: u32,
-    pub third: u32,
+    pub second: Option<u32>,
+    pub third: Option<u32>,
     pub rest: Rest,
 }
 
-fn row(mnemonic: u64, first: u32, second: u32, third: u32, rest: Rest) -> Assembled
+fn row(mnemonic: u64, first: u32, second: Option<u32>, third: Option<u32>, rest: Rest) -> Assembled
     ensures { result ≡ record { mnemonic = mnemonic; first = first; second = second; third = third; rest = rest } }
 {
     Assembled {
@@ -91,23 +91,23 @@ fn op_assembly(op: Op, rd: u32, rn: u32, rm: u32) -> Assembled
     ensures { Assembles result (op_syntax op (X rd) (X rn) (X rm)) }
 {
     match op {
-        Op::Add => row(ADD, rd, rn, rm, Rest::Lsl0),
-        Op::Sub => row(SUB, rd, rn, rm, Rest::Lsl0),
-        Op::And => row(AND, rd, rn, rm, Rest::Lsl0),
-        Op::Orr => row(ORR, rd, rn, rm, Rest::Lsl0),
-        Op::Eor => row(EOR, rd, rn, rm, Rest::Lsl0),
-        Op::Lslv => row(LSLV, rd, rn, rm, Rest::None),
-        Op::Lsrv => row(LSRV, rd, rn, rm, Rest::None),
-        Op::Asrv => row(ASRV, rd, rn, rm, Rest::None),
-        Op::Mul => row(MADD, rd, rn, rm, Rest::Xzr),
-        Op::Smulh => row(SMULH, rd, rn, rm, Rest::None),
-        Op::Umulh => row(UMULH, rd, rn, rm, Rest::None),
-        Op::Udiv => row(UDIV, rd, rn, rm, Rest::None),
-        Op::Sdiv => row(SDIV, rd, rn, rm, Rest::None),
-        Op::Bic => row(BIC, rd, rn, rm, Rest::Lsl0),
-        Op::Orn => row(ORN, rd, rn, rm, Rest::Lsl0),
-        Op::Eon => row(EON, rd, rn, rm, Rest::Lsl0),
-        Op::Rorv => row(RORV, rd, rn, rm, Rest::None),
+        Op::Add => row(ADD, rd, Some(rn), Some(rm), Rest::Lsl0),
+        Op::Sub => row(SUB, rd, Some(rn), Some(rm), Rest::Lsl0),
+        Op::And => row(AND, rd, Some(rn), Some(rm), Rest::Lsl0),
+        Op::Orr => row(ORR, rd, Some(rn), Some(rm), Rest::Lsl0),
+        Op::Eor => row(EOR, rd, Some(rn), Some(rm), Rest::Lsl0),
+        Op::Lslv => row(LSLV, rd, Some(rn), Some(rm), Rest::None),
+        Op::Lsrv => row(LSRV, rd, Some(rn), Some(rm), Rest::None),
+        Op::Asrv => row(ASRV, rd, Some(rn), Some(rm), Rest::None),
+        Op::Mul => row(MADD, rd, Some(rn), Some(rm), Rest::Xzr),
+        Op::Smulh => row(SMULH, rd, Some(rn), Some(rm), Rest::None),
+        Op::Umulh => row(UMULH, rd, Some(rn), Some(rm), Rest::None),
+        Op::Udiv => row(UDIV, rd, Some(rn), Some(rm), Rest::None),
+        Op::Sdiv => row(SDIV, rd, Some(rn), Some(rm), Rest::None),
+        Op::Bic => row(BIC, rd, Some(rn), Some(rm), Rest::Lsl0),
+        Op::Orn => row(ORN, rd, Some(rn), Some(rm), Rest::Lsl0),
+        Op::Eon => row(EON, rd, Some(rn), Some(rm), Rest::Lsl0),
+        Op::Rorv => row(RORV, rd, Some(rn), Some(rm), Rest::None),
     }
 }
 
@@ -116,8 +116,8 @@ fn op1_assembly(op: Op1, rd: u32, rn: u32) -> Assembled
     ensures { Assembles result (op1_syntax op (X rd) (X rn)) }
 {
     match op {
-        Op1::Rev => row(REV, rd, rn, NONE, Rest::None),
-        Op1::Clz => row(CLZ, rd, rn, NONE, Rest::None),
+        Op1::Rev => row(REV, rd, Some(rn), None, Rest::None),
+        Op1::Clz => row(CLZ, rd, Some(rn), None, Rest::None),
     }
 }
 
@@ -127,18 +127,18 @@ pub fn assembly(f: Form) -> Assembled
 {
     match f {
         Form::DataProcessing(op, rd, rn, rm) => op_assembly(op, rd, rn, rm),
-        Form::Ldr(rt, rn, imm) => row(LDR, rt, NONE, NONE, Rest::Memory(rn, 8 * imm)),
-        Form::Str(rt, rn, imm) => row(STR, rt, NONE, NONE, Rest::Memory(rn, 8 * imm)),
-        Form::Movz(rd, hw, imm) => row(MOVZ, rd, NONE, NONE, Rest::Shifted(imm, 16 * hw)),
-        Form::Movk(rd, hw, imm) => row(MOVK, rd, NONE, NONE, Rest::Shifted(imm, 16 * hw)),
-        Form::Cmp(rn, rm) => row(SUBS, 31, rn, rm, Rest::Lsl0),
-        Form::Csel(rd, rn, rm, c) => row(CSEL, rd, rn, rm, Rest::Condition(c)),
-        Form::Sxtw(rd, rn) => row(SBFM, rd, rn, NONE, Rest::Fields(0, 31)),
-        Form::AddSp(imm) => row(ADD, SP, SP, NONE, Rest::Shifted(imm, 0)),
-        Form::SubSp(imm) => row(SUB, SP, SP, NONE, Rest::Shifted(imm, 0)),
-        Form::Blr(rn) => row(BLR, rn, NONE, NONE, Rest::None),
-        Form::Ret => row(RET, 30, NONE, NONE, Rest::None),
-        Form::Unreadable => row(0, NONE, NONE, NONE, Rest::None),
+        Form::Ldr(rt, rn, imm) => row(LDR, rt, None, None, Rest::Memory(rn, 8 * imm)),
+        Form::Str(rt, rn, imm) => row(STR, rt, None, None, Rest::Memory(rn, 8 * imm)),
+        Form::Movz(rd, hw, imm) => row(MOVZ, rd, None, None, Rest::Shifted(imm, 16 * hw)),
+        Form::Movk(rd, hw, imm) => row(MOVK, rd, None, None, Rest::Shifted(imm, 16 * hw)),
+        Form::Cmp(rn, rm) => row(SUBS, 31, Some(rn), Some(rm), Rest::Lsl0),
+        Form::Csel(rd, rn, rm, c) => row(CSEL, rd, Some(rn), Some(rm), Rest::Condition(c)),
+        Form::Sxtw(rd, rn) => row(SBFM, rd, Some(rn), None, Rest::Fields(0, 31)),
+        Form::AddSp(imm) => row(ADD, SP, Some(SP), None, Rest::Shifted(imm, 0)),
+        Form::SubSp(imm) => row(SUB, SP, Some(SP), None, Rest::Shifted(imm, 0)),
+        Form::Blr(rn) => row(BLR, rn, None, None, Rest::None),
+        Form::Ret => row(RET, 30, None, None, Rest::None),
+        Form::Unreadable => unreachable!(),
         Form::OneSource(op, rd, rn) => op1_assembly(op, rd, rn),
     }
 }

@@ -1,36 +1,35 @@
 // The text of a form.
-ghost use Rattle.std.specs.Prelude.{◌+◌, ◌<◌, ◌≤◌, ◌^◌, length};
+ghost use Rattle.std.specs.Prelude.{◌<◌, ◌^◌};
 ghost use Rattle.a64_text.specs.Text.{syntax, text};
-ghost use Rattle.ascii.specs.Parts.{Put};
+ghost use Rattle.ascii.specs.Parts.{Wrote, Room};
 ghost use Rattle.a64_text.specs.Parts.{Readable, mnemonic_bytes};
 
 use crate::{assembly, operand};
 use a64::Form;
+use ascii::Writer;
 
-fn put_mnemonic(out: &mut [u8], at: usize, m: u64) -> usize
-    requires { (at + length (mnemonic_bytes m) ≤ length out.old) × (m < 2 ^ 48) }
-    ensures { Put out.old at (mnemonic_bytes m) out.new result }
+fn put_mnemonic(out: &mut Writer, m: u64)
+    requires { Room out.old (mnemonic_bytes m) × (m < 2 ^ 48) }
+    ensures { Wrote out.old (mnemonic_bytes m) out.new }
 {
-    let at = ascii::put32(out, at, (m % 0x1_0000_0000) as u32);
+    out.number((m % 0x1_0000_0000) as u32);
     let rest = m / 0x1_0000_0000;
-    if rest == 0 {
-        return at;
+    if 0x100 <= rest {
+        out.number(rest as u16);
+    } else if rest != 0 {
+        out.byte(rest as u8);
     }
-    if rest < 0x100 {
-        return ascii::put_byte(out, at, rest as u8);
-    }
-    ascii::put16(out, at, rest as u16)
 }
 
-pub fn put_text(out: &mut [u8], at: usize, f: Form) -> usize
-    requires { (at + length (text (syntax f)) ≤ length out.old) × Readable f }
-    ensures { Put out.old at (text (syntax f)) out.new result }
+pub fn put_text(out: &mut Writer, f: Form)
+    requires { Room out.old (text (syntax f)) × Readable f }
+    ensures { Wrote out.old (text (syntax f)) out.new }
 {
     let a = assembly::assembly(f);
     let rest = a.rest;
-    let at = put_mnemonic(out, at, a.mnemonic);
-    let at = operand::put_register(out, at, a.first);
-    let at = operand::put_further(out, at, a.second);
-    let at = operand::put_further(out, at, a.third);
-    operand::put_rest(out, at, rest)
+    put_mnemonic(out, a.mnemonic);
+    operand::put_register(out, a.first);
+    operand::put_further(out, a.second);
+    operand::put_further(out, a.third);
+    operand::put_rest(out, rest);
 }

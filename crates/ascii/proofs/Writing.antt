@@ -1,5 +1,5 @@
 -- Bytes written one part after the other. Assumes nothing.
-use mathlib.Core.Path.{◌≡◌, refl, sym}
+use mathlib.Core.Path.{◌≡◌, refl, sym, ◌∙◌}
 use mathlib.Core.List.{List, [], ◌∷◌, ◌++◌}
 use Prim.Native.Nat.{ℕ, ◌+◌, ◌≤◌, ◌<◌}
 use native.Mathlib.Nat.{add_assoc, add-zero}
@@ -10,11 +10,12 @@ use lib.Seq.{set_split}
 use Rattle.le.specs.Le.{bytes, store, splice}
 use Rattle.le.proofs.Laws.{length-bytes}
 use Rattle.le.proofs.Splices.{splice-append, splice_nothing, length-splice}
-use Rattle.ascii.specs.Parts.{Put}
+use Rattle.ascii.specs.declared.writer.Writer.{Writer}
+use Rattle.ascii.specs.Parts.{Put, Wrote}
 
 -- one part, and another after it
-pub then : {m m₁ m₂ s t : List ℕ} {at k r : ℕ} → Put m at s m₁ k → Put m₁ k t m₂ r → Put m at (s ++ t) m₂ r
-then {m} {m₁} {m₂} {s} {t} {at} {k} {r} p q =
+pub put_then : {m m₁ m₂ s t : List ℕ} {at k r : ℕ} → Put m at s m₁ k → Put m₁ k t m₂ r → Put m at (s ++ t) m₂ r
+put_then {m} {m₁} {m₂} {s} {t} {at} {k} {r} p q =
     let h = p.room in
     let l : length m₁ ≡ length m = rw p.written (length-splice m at s h) in
     record {
@@ -33,3 +34,11 @@ put-set m at b h = record { written = rw (set_split m at b h, add-one); next = r
 pub put-store : (k : ℕ) (m : List ℕ) (at v : ℕ) (m' : List ℕ) → m' ≡ store k m at v → at + k ≤ length m → Put m at (bytes k v) m' (at + k)
 unfolding splice store
 put-store k m at v m' e h = let l = length-bytes k v in record { written = rw (e, l); next = rw l; room = rw l h }
+
+-- ---- by a writer
+
+pub then : {w w₁ w₂ : Writer} {s t : List ℕ} → Wrote w s w₁ → Wrote w₁ t w₂ → Wrote w (s ++ t) w₂
+then p q = record { same = q.same ∙ p.same; length = q.length ∙ p.length; put = put_then p.put q.put }
+
+pub wrote_nothing : (w : Writer) → w.at ≤ length w.out.now → Wrote w [] w
+wrote_nothing w h = record { same = refl; length = refl; put = nothing w.out.now w.at h }

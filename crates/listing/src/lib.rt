@@ -2,7 +2,7 @@
 #![tactic(auto)]
 
 ghost use Rattle.std.specs.Prelude.{◌≡◌, true, false, ◌+◌, ◌^◌, ◌≤◌, ltb, length, is_some, IfSome};
-ghost use Rattle.ascii.specs.Parts.{Put};
+ghost use Rattle.ascii.specs.Parts.{Put, Room, Wrote};
 ghost use Rattle.listing.specs.Listing as L;
 ghost use Rattle.listing.specs.Parts.{outside_count, line_of, Listable};
 
@@ -10,6 +10,7 @@ mod forms;
 mod refusals;
 
 use a64_text::text;
+use ascii::Writer;
 pub use refusals::ListRefusal;
 
 // How many words are outside the forms.
@@ -42,16 +43,16 @@ fn first_outside(block: &[u8]) -> Option<usize>
 }
 
 // Offset and word in hexadecimal, the text, a line feed.
-fn put_line(out: &mut [u8], at: usize, offset: u32, w: u32) -> usize
-    requires { (at + length (L.line (line_of offset w)) ≤ length out.old) × (L.is_outside (line_of offset w).form ≡ false) }
-    ensures { Put out.old at (L.line (line_of offset w)) out.new result }
+fn put_line(out: &mut Writer, offset: u32, w: u32)
+    requires { Room out.old (L.line (line_of offset w)) × (L.is_outside (line_of offset w).form ≡ false) }
+    ensures { Wrote out.old (L.line (line_of offset w)) out.new }
 {
-    let at = ascii::put_hex8(out, at, offset);
-    let at = ascii::put_byte(out, at, b' ');
-    let at = ascii::put_hex8(out, at, w);
-    let at = ascii::put_byte(out, at, b' ');
-    let at = text::put_text(out, at, a64::decode_readable(w));
-    ascii::put_byte(out, at, b'\n')
+    out.hex8(offset);
+    out.byte(b' ');
+    out.hex8(w);
+    out.byte(b' ');
+    text::put_text(out, a64::decode_readable(w));
+    out.byte(b'\n');
 }
 
 // How many bytes the lines have: each is written over the one before it.
@@ -63,7 +64,9 @@ fn listing_length(block: &[u8]) -> usize
     let mut total = 0;
     for i in 0..block.len() / 4 {
         let offset = 4 * i;
-        total += put_line(&mut line, 0, offset as u32, le::load(block, offset));
+        let mut out = Writer::new(&mut line);
+        put_line(&mut out, offset as u32, le::load(block, offset));
+        total += out.at;
     }
     total
 }
@@ -73,12 +76,12 @@ fn put_lines(block: &[u8], out: &mut [u8]) -> usize
     requires { (length (L.listing (L.block_lines block.now)) ≤ length out.old) × Listable block.now }
     ensures { Put out.old 0 (L.listing (L.block_lines block.now)) out.new result }
 {
-    let mut at = 0;
+    let mut lines = Writer::new(out);
     for i in 0..block.len() / 4 {
         let offset = 4 * i;
-        at = put_line(out, at, offset as u32, le::load(block, offset));
+        put_line(&mut lines, offset as u32, le::load(block, offset));
     }
-    at
+    lines.at
 }
 
 // Whether `room` bytes are too few for the lines. Where each may be the longest, they need not be measured.

@@ -1,7 +1,5 @@
-use Rattle.std.proofs.Common.{◌≡◌, ◌+◌, ◌*◌, ◌≤◌, false, length}
-use Rattle.rules.specs.Limits.{longest_line}
-use Rattle.le.specs.Le.{splice}
-use Rattle.listing.specs.Listing.{block_lines, listing, any_outside}
+use Rattle.std.proofs.Common.{◌≡◌, ◌+◌, ◌≤◌}
+use Rattle.listing.specs.Listing.{block_lines}
 use Rattle.listing.specs.Parts.{outside_count}
 use Rattle.listing.proofs.Lines.{lines_from}
 use Rattle.listing.proofs.count_outside.Given as goal

@@ -1,8 +1,5 @@
-use Rattle.std.proofs.Common.{◌≡◌, ◌+◌, ◌*◌, ◌≤◌, false, length}
-use Rattle.rules.specs.Limits.{longest_line}
-use Rattle.le.specs.Le.{splice}
-use Rattle.listing.specs.Listing.{block_lines, listing, any_outside}
-use Rattle.listing.specs.Parts.{outside_count}
+use Rattle.std.proofs.Common.{◌≡◌}
+use Rattle.listing.specs.Listing.{block_lines, any_outside}
 use Rattle.listing.proofs.Lines.{lines_from}
 use Rattle.listing.proofs.first_outside.Given as goal
 

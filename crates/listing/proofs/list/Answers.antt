@@ -1,5 +1,5 @@
 use Rattle.std.proofs.Common.{arith, ◌∙◌, sym}
-use borrow.Author.Tests.{ltb-true, ltb-false}
+use borrow.Author.Tests.{ltb-true}
 use Rattle.listing.proofs.Answering.{ragged, too_long, outside, short-output, listed}
 use Rattle.listing.proofs.list.Goals.{then-block-ne0-via-then-block-ne0, then-block-ne0-via-else-block-ne0+then-block-gt4294967296}
 use Rattle.listing.proofs.list.Goals as goal

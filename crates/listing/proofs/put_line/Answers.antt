@@ -9,30 +9,30 @@ use Rattle.listing.specs.Listing.{line}
 use Rattle.listing.proofs.Lines.{readable}
 use Rattle.listing.proofs.put_line.Goals as goal
 
-pub put_hex8-at-requires : goal.put_hex8-at-requires
+pub hex8-requires : goal.hex8-requires
 unfolding line
-put_hex8-at-requires c = omega (arith, simp length-append at c.requires.0, hex-length 8 c.args.offset, hex-length 8 c.args.w)
+hex8-requires c = omega (arith, simp length-append at c.requires.0, hex-length 8 c.args.offset, hex-length 8 c.args.w)
 
-pub put_byte-at-requires : goal.put_byte-at-requires
+pub byte-requires : goal.byte-requires
 unfolding line
-put_byte-at-requires c = omega (arith, simp length-append at c.requires.0, hex-length 8 c.args.offset, hex-length 8 c.args.w)
+byte-requires c = omega (arith, simp length-append at c.requires.0, hex-length 8 c.args.offset, hex-length 8 c.args.w)
 
-pub put_hex8-at-requires-2 : goal.put_hex8-at-requires-2
+pub hex8-requires-2 : goal.hex8-requires-2
 unfolding line
-put_hex8-at-requires-2 c = omega (arith, simp length-append at c.requires.0, hex-length 8 c.args.offset, hex-length 8 c.args.w)
+hex8-requires-2 c = omega (arith, simp length-append at c.requires.0, hex-length 8 c.args.offset, hex-length 8 c.args.w)
 
-pub put_byte-at-requires-2 : goal.put_byte-at-requires-2
+pub byte-requires-2 : goal.byte-requires-2
 unfolding line
-put_byte-at-requires-2 c = omega (arith, simp length-append at c.requires.0, hex-length 8 c.args.offset, hex-length 8 c.args.w)
+byte-requires-2 c = omega (arith, simp length-append at c.requires.0, hex-length 8 c.args.offset, hex-length 8 c.args.w)
 
-pub put_text-at-requires : goal.put_text-at-requires
+pub put_text-requires : goal.put_text-requires
 unfolding line
-put_text-at-requires c = rw c.decode_readable.ensures (omega (arith, simp length-append at c.requires.0, hex-length 8 c.args.offset, hex-length 8 c.args.w), readable _ c.requires.1)
+put_text-requires c = rw c.decode_readable.ensures (omega (arith, simp length-append at c.requires.0, hex-length 8 c.args.offset, hex-length 8 c.args.w), readable _ c.requires.1)
 
-pub put_byte-requires : goal.put_byte-requires
+pub byte-requires-3 : goal.byte-requires-3
 unfolding line
-put_byte-requires c = omega (arith, simp length-append at c.requires.0, hex-length 8 c.args.offset, hex-length 8 c.args.w, ap (λ (f : Form). length (text (syntax f))) c.decode_readable.ensures)
+byte-requires-3 c = omega (arith, simp length-append at c.requires.0, hex-length 8 c.args.offset, hex-length 8 c.args.w, ap (λ (f : Form). length (text (syntax f))) c.decode_readable.ensures)
 
 pub returns : goal.returns
 unfolding line
-returns c = then c.put_hex8-at.ensures (then c.put_byte-at.ensures (then c.put_hex8-at-2.ensures (then c.put_byte-at-2.ensures (then (rw c.decode_readable.ensures at c.put_text-at.ensures) c.put_byte.ensures))))
+returns c = then c.hex8.ensures (then c.byte.ensures (then c.hex8-2.ensures (then c.byte-2.ensures (then (rw c.decode_readable.ensures at c.put_text.ensures) c.byte-3.ensures))))

@@ -5,22 +5,22 @@ use Rattle.ascii.proofs.Writing.{then}
 use Rattle.le.specs.Le.{bytes}
 use Rattle.a64_text.proofs.operand.put_memory.Goals as goal
 
-pub put_byte-at-requires : goal.put_byte-at-requires
+pub byte-requires : goal.byte-requires
 unfolding bytes
-put_byte-at-requires c = omega (arith, simp length-append at c.requires.0)
+byte-requires c = omega (arith, simp length-append at c.requires.0)
 
-pub put_x_sp-at-requires : goal.put_x_sp-at-requires
+pub put_x_sp-requires : goal.put_x_sp-requires
 unfolding bytes
-put_x_sp-at-requires c = (omega (arith, simp length-append at c.requires.0), search rules)
+put_x_sp-requires c = (omega (arith, simp length-append at c.requires.0), search rules)
 
-pub put_immediate-at-requires : goal.put_immediate-at-requires
+pub put_immediate-requires : goal.put_immediate-requires
 unfolding bytes
-put_immediate-at-requires c = (omega (arith, simp length-append at c.requires.0), search rules)
+put_immediate-requires c = (omega (arith, simp length-append at c.requires.0), search rules)
 
-pub put_byte-requires : goal.put_byte-requires
+pub byte-requires-2 : goal.byte-requires-2
 unfolding bytes
-put_byte-requires c = omega (arith, simp length-append at c.requires.0)
+byte-requires-2 c = omega (arith, simp length-append at c.requires.0)
 
 pub returns : goal.returns
 unfolding bytes
-returns c = then c.put16-at.ensures (then c.put_byte-at.ensures (then c.put_x_sp-at.ensures (then c.put_immediate-at.ensures c.put_byte.ensures)))
+returns c = then c.number.ensures (then c.byte.ensures (then c.put_x_sp.ensures (then c.put_immediate.ensures c.byte-2.ensures)))

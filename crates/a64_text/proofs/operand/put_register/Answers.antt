@@ -13,22 +13,22 @@ put_numbered-requires c = (rw (numbered _ c.if-n-lt31.true) at c.requires.0, sea
 pub returns-then-n-lt31 : goal.returns-then-n-lt31
 returns-then-n-lt31 c = rw (numbered _ c.if-n-lt31.true) c.put_numbered.ensures
 
-pub put16-at-requires : goal.put16-at-requires
+pub number-requires : goal.number-requires
 unfolding operand register
-put16-at-requires c = let h = rw c.if-n-eq31.true at c.requires.0 in omega arith
+number-requires c = let h = rw c.if-n-eq31.true at c.requires.0 in omega arith
 
-pub put_byte-requires : goal.put_byte-requires
+pub byte-requires : goal.byte-requires
 unfolding operand register bytes
-put_byte-requires c = let h = rw c.if-n-eq31.true at c.requires.0 in omega arith
+byte-requires c = let h = rw c.if-n-eq31.true at c.requires.0 in omega arith
 
 pub returns-then-n-eq31 : goal.returns-then-n-eq31
 unfolding operand register bytes
-returns-then-n-eq31 c = rw c.if-n-eq31.true (then c.put16-at.ensures c.put_byte.ensures)
+returns-then-n-eq31 c = rw c.if-n-eq31.true (then c.number.ensures c.byte.ensures)
 
-pub put16-requires : goal.put16-requires
+pub number-requires-else-n-eq31 : goal.number-requires-else-n-eq31
 unfolding operand register
-put16-requires c = let s : c.args.n ≡ 32 = omega arith in let h = rw s at c.requires.0 in omega arith
+number-requires-else-n-eq31 c = let s : c.args.n ≡ 32 = omega arith in let h = rw s at c.requires.0 in omega arith
 
-pub returns : goal.returns
+pub returns-else-n-eq31 : goal.returns-else-n-eq31
 unfolding operand register bytes
-returns c = let s : c.args.n ≡ 32 = omega arith in rw s c.put16.ensures
+returns-else-n-eq31 c = let s : c.args.n ≡ 32 = omega arith in rw s c.number-else-n-eq31.ensures

@@ -5,18 +5,18 @@ use Rattle.ascii.proofs.Writing.{then}
 use Rattle.le.specs.Le.{bytes}
 use Rattle.a64_text.proofs.operand.put_shifted.Goals as goal
 
-pub put16-at-requires : goal.put16-at-requires
+pub number-requires-2 : goal.number-requires-2
 unfolding bytes
-put16-at-requires c = omega (arith, simp length-append at c.requires.0)
+number-requires-2 c = omega (arith, simp length-append at c.requires.0)
 
-pub put_byte-at-requires : goal.put_byte-at-requires
+pub byte-requires : goal.byte-requires
 unfolding bytes
-put_byte-at-requires c = omega (arith, simp length-append at c.requires.0)
+byte-requires c = omega (arith, simp length-append at c.requires.0)
 
-pub put_short-requires : goal.put_short-requires
+pub short-requires : goal.short-requires
 unfolding bytes
-put_short-requires c = (omega (arith, simp length-append at c.requires.0), search rules)
+short-requires c = (omega (arith, simp length-append at c.requires.0), search rules)
 
 pub returns : goal.returns
 unfolding bytes
-returns c = then c.put_immediate-at.ensures (then c.put32-at.ensures (then c.put16-at.ensures (then c.put_byte-at.ensures c.put_short.ensures)))
+returns c = then c.put_immediate.ensures (then c.number.ensures (then c.number-2.ensures (then c.byte.ensures c.short.ensures)))

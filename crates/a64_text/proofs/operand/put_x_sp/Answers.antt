@@ -10,10 +10,10 @@ put_numbered-requires c = (rw (numbered_or_sp _ c.if-n-ne31.true) at c.requires.
 pub returns-then-n-ne31 : goal.returns-then-n-ne31
 returns-then-n-ne31 c = rw (numbered_or_sp _ c.if-n-ne31.true) c.put_numbered.ensures
 
-pub put16-requires : goal.put16-requires
+pub number-requires : goal.number-requires
 unfolding register
-put16-requires c = rw c.if-n-ne31.false at c.requires.0
+number-requires c = rw c.if-n-ne31.false at c.requires.0
 
-pub returns : goal.returns
+pub returns-else-n-ne31 : goal.returns-else-n-ne31
 unfolding register bytes
-returns c = rw c.if-n-ne31.false c.put16.ensures
+returns-else-n-ne31 c = rw c.if-n-ne31.false c.number.ensures

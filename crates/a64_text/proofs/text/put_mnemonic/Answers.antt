@@ -4,22 +4,22 @@ use Rattle.le.specs.Le.{bytes}
 use Rattle.a64_text.proofs.Laying.{at_least_four, four, five, six}
 use Rattle.a64_text.proofs.text.put_mnemonic.Goals as goal
 
-pub put32-at-requires : goal.put32-at-requires
-put32-at-requires c = omega (arith, at_least_four c.args.m)
+pub number-requires : goal.number-requires
+number-requires c = omega (arith, at_least_four c.args.m)
 
-pub returns-then-rest-eq0 : goal.returns-then-rest-eq0
-returns-then-rest-eq0 c = rw (four c.args.m (omega arith)) c.put32-at.ensures
+pub returns-else-rest-ne0 : goal.returns-else-rest-ne0
+returns-else-rest-ne0 c = rw (four c.args.m (omega arith)) c.number.ensures
 
-pub put_byte-requires : goal.put_byte-requires
+pub byte-requires : goal.byte-requires
 unfolding bytes
-put_byte-requires c = let h = rw (five c.args.m (omega arith) (omega arith)) at c.requires.0 in omega arith
+byte-requires c = let h = rw (five c.args.m (omega arith) (omega arith)) at c.requires.0 in omega arith
 
-pub returns-then-rest-lt256 : goal.returns-then-rest-lt256
-returns-then-rest-lt256 c = rw (five c.args.m (omega arith) (omega arith)) (then c.put32-at.ensures c.put_byte.ensures)
+pub returns-then-rest-ne0 : goal.returns-then-rest-ne0
+returns-then-rest-ne0 c = rw (five c.args.m (omega arith) (omega arith)) (then c.number.ensures c.byte.ensures)
 
-pub put16-requires : goal.put16-requires
+pub number-requires-then-rest-ge256 : goal.number-requires-then-rest-ge256
 unfolding bytes
-put16-requires c = let h = rw (six c.args.m (omega arith)) at c.requires.0 in omega arith
+number-requires-then-rest-ge256 c = let h = rw (six c.args.m (omega arith)) at c.requires.0 in omega arith
 
-pub returns : goal.returns
-returns c = rw (six c.args.m (omega arith)) (then c.put32-at.ensures c.put16.ensures)
+pub returns-then-rest-ge256 : goal.returns-then-rest-ge256
+returns-then-rest-ge256 c = rw (six c.args.m (omega arith)) (then c.number.ensures c.number-then-rest-ge256.ensures)

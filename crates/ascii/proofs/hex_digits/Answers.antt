@@ -1,6 +1,0 @@
-use borrow.Author.Rules.{rules}
-use Rattle.ascii.proofs.Lanes.{hex8}
-use Rattle.ascii.proofs.hex_digits.Goals as goal
-
-pub returns : goal.returns
-returns c = hex8 c.args.v (search rules)

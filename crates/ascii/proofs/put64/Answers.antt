@@ -1,6 +1,0 @@
-use borrow.Author.Rules.{rules}
-use Rattle.ascii.proofs.Writing.{put-store}
-use Rattle.ascii.proofs.put64.Goals as goal
-
-pub returns : goal.returns
-returns c = put-store 8 _ _ _ _ c.store.ensures (search rules)
