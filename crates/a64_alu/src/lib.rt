@@ -8,7 +8,7 @@ ghost use Rattle.a64_alu.specs.Nzcv.{flags_of, nzcv_of};
 use a64::{Op, Op1};
 
 // PSTATE.{N, Z, C, V}.
-#[derive(Clone, Copy)]
+#[derive(Clone, Copy, PartialEq, Eq, Debug)]
 pub struct Flags {
     pub n: bool,
     pub z: bool,
@@ -16,57 +16,53 @@ pub struct Flags {
     pub v: bool,
 }
 
-fn bit(b: bool, weight: u64) -> u64
-    requires { weight ≤ 8 }
-    ensures { (result ≡ (if b then weight else 0)) × (result ≤ weight) }
-{
-    if b { weight } else { 0 }
-}
-
 // The flags in the low four bits of a number.
-pub fn flags_of(nzcv: u64) -> Flags
-    ensures { result ≡ flags_of nzcv }
-{
-    Flags {
-        n: nzcv / 8 % 2 == 1,
-        z: nzcv / 4 % 2 == 1,
-        c: nzcv / 2 % 2 == 1,
-        v: nzcv % 2 == 1,
+impl From<u64> for Flags {
+    ghost from_gives = { λ nzcv flags. flags ≡ flags_of nzcv };
+
+    fn from(nzcv: u64) -> Flags {
+        Flags {
+            n: nzcv / 8 % 2 == 1,
+            z: nzcv / 4 % 2 == 1,
+            c: nzcv / 2 % 2 == 1,
+            v: nzcv % 2 == 1,
+        }
     }
 }
 
 // The number whose low four bits are the flags.
-pub fn nzcv_of(f: Flags) -> u64
-    ensures { result ≡ nzcv_of f }
-{
-    bit(f.n, 8) + bit(f.z, 4) + bit(f.c, 2) + bit(f.v, 1)
+impl From<Flags> for u64 {
+    ghost from_gives = { λ flags nzcv. nzcv ≡ nzcv_of flags };
+
+    fn from(flags: Flags) -> u64 {
+        let high = u64::from(flags.n) * 8 + u64::from(flags.z) * 4;
+        high + u64::from(flags.c) * 2 + u64::from(flags.v)
+    }
 }
 
 // Register n as an operand: 31 is zero.
 pub fn get(x: &[u64; 31], n: u32) -> u64
-    requires { length x.now ≡ 31 }
     ensures { result ≡ slice_index x.now n }
 {
-    let i = n as usize;
-    if i < 31 { x[i] } else { 0 }
+    x.get(n as usize).copied().unwrap_or(0)
 }
 
 // Division by 0 gives 0.
 fn udiv(x: u64, y: u64) -> u64
     ensures { result ≡ x / y }
 {
-    if y == 0 { 0 } else { x / y }
+    x.checked_div(y).unwrap_or(0)
 }
 
 // The result of a three-register form on registers n and m. Each arm reads them, so that the decoder's test of the
 // operation is the only one.
+#[tactic(auto, using(crate::proofs::Results::op_results), unfolding(crate::specs::Alu::op_value))]
 pub fn op_value(op: Op, x: &[u64; 31], n: u32, m: u32) -> u64
-    requires { length x.now ≡ 31 }
     ensures { result ≡ op_value op (slice_index x.now n) (slice_index x.now m) }
 {
     match op {
-        Op::Add => std::num::wrapping_add_u64(get(x, n), get(x, m)),
-        Op::Sub => word::sub(get(x, n), get(x, m)),
+        Op::Add => get(x, n).wrapping_add(get(x, m)),
+        Op::Sub => get(x, n).wrapping_sub(get(x, m)),
         Op::And => get(x, n) & get(x, m),
         Op::Orr => get(x, n) | get(x, m),
         Op::Eor => get(x, n) ^ get(x, m),
@@ -86,6 +82,7 @@ pub fn op_value(op: Op, x: &[u64; 31], n: u32, m: u32) -> u64
 }
 
 // The result of a form with one source.
+#[tactic(auto, unfolding(crate::specs::Alu::op1_value))]
 pub fn op1_value(op: Op1, x: u64) -> u64
     ensures { result ≡ op1_value op x }
 {
@@ -99,9 +96,9 @@ pub fn op1_value(op: Op1, x: u64) -> u64
 pub fn compare(x: u64, y: u64) -> Flags
     ensures { result ≡ compared x y }
 {
-    let n = 0x8000_0000_0000_0000 <= word::sub(x, y);
+    let n = 0x8000_0000_0000_0000 <= x.wrapping_sub(y);
     Flags {
-        n: n,
+        n,
         z: x == y,
         c: y <= x,
         v: word::slt(x, y) != n,
@@ -127,6 +124,7 @@ fn holds_even(k: u32, f: Flags) -> bool
 }
 
 // Whether condition k holds.
+#[tactic(auto, unfolding(crate::specs::Alu::holds))]
 pub fn holds(k: u32, f: Flags) -> bool
     ensures { result ≡ holds k f }
 {
@@ -139,6 +137,7 @@ pub fn holds(k: u32, f: Flags) -> bool
 }
 
 // x with its halfword hw replaced.
+#[tactic(auto, unfolding(crate::specs::Alu::insert))]
 pub fn insert(x: u64, hw: u32, v: u64) -> u64
     requires { (hw < 4) × (v < 65536) }
     ensures { result ≡ insert x hw v }

@@ -1,16 +1,18 @@
 // Replays what an Arm machine was recorded to do, and document 01's own rules (machines/README.md has the format).
 #![tactic(auto)]
 
+use a64_alu::Flags;
 use a64_exec::state::A64State;
 use a64_run::run;
-use a64_run::run::Answer;
+use a64_run::run::Ran;
+use rules::refusals::Refused;
 use std::io;
 
 // Whether the answer is the recorded one: every register, SP, NZCV, every memory byte, end and steps.
 // `x` is as at entry.
 fn answers(
     file: &mut &[u8],
-    answer: Answer,
+    answer: Result<Ran, Refused<A64State>>,
     x: &mut [u64; 31],
     memory: &[u8],
     after: &mut [u8],
@@ -21,14 +23,14 @@ fn answers(
     replay::read_full(file, after);
     let end = replay::read_byte(file) as u32;
     let steps = replay::read_byte(file) as u64;
-    let state = answer.state;
-    let flags = state.flags;
-    state.x == *x
-        && answer.refusal == 0
-        && answer.end == end
-        && answer.steps == steps
-        && state.sp == sp
-        && a64_alu::nzcv_of(flags) == nzcv
+    let Ok(ran) = answer else {
+        return false;
+    };
+    ran.state.x == *x
+        && u32::from(ran.end) == end
+        && ran.steps == steps
+        && ran.state.sp == sp
+        && u64::from(ran.state.flags) == nzcv
         && memory == &*after
 }
 
@@ -40,7 +42,7 @@ fn agrees(file: &mut &[u8], block: &[u8], memory: &mut [u8], after: &mut [u8]) -
     replay::unnamed(&mut x);
     replay::read_registers(file, &mut x);
     let sp = replay::read_number(file);
-    let flags = a64_alu::flags_of(replay::read_byte(file) as u64);
+    let flags = Flags::from(u64::from(replay::read_byte(file)));
     let base = replay::read_number(file);
     let size = replay::read_size(file, 64);
     if memory.len() < size || after.len() < size {

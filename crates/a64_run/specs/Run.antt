@@ -1,5 +1,5 @@
 -- The run of a block's words, and the operation A64 run (document 01). Definitions only.
-use Rattle.std.specs.Prelude.{ℕ, zero, suc, ◌+◌, ◌*◌, ◌%◌, ◌^◌, cond, not, List, [], ◌∷◌, length, drop, ◌==◌, nat_lt}
+use Rattle.std.specs.Prelude.{ℕ, zero, suc, ◌+◌, ◌*◌, ◌%◌, ◌^◌, cond, not, Result as RustResult, Ok, Err, List, [], ◌∷◌, length, drop, ◌==◌, nat_lt}
 use Rattle.rules.specs.Refusals as Refusals
 use Rattle.word.specs.Word.{wrap}
 pub use Rattle.le.specs.Le.{words}
@@ -7,7 +7,8 @@ use Rattle.a64.specs.Forms.{decode}
 use Rattle.a64_exec.specs.declared.state.A64State.{A64State}
 use Rattle.a64_exec.specs.declared.exec.Outcome.{Outcome}
 use Rattle.a64_run.specs.declared.run.End.{End}
-use Rattle.a64_run.specs.declared.run.Answer.{Answer}
+use Rattle.a64_run.specs.declared.run.Ran as Declared
+use Rattle.rules.specs.declared.refusals.Refused.{Refused}
 use Rattle.a64_exec.specs.Exec.{State, machine, with_reg, After, exec}
 
 pub record Ran : Type 0 where
@@ -57,6 +58,13 @@ at_entry s base mem = machine s.x s.sp s.flags base mem
 abbrev pub registers : State → A64State
 registers s = record { x = s.x; sp = s.sp; flags = s.flags }
 
+-- the refusal, or 0 and document 01's number of the end, the steps done and the state after them
+pub record Answer : Type 0 where
+  pub refusal : ℕ
+  pub end : ℕ
+  pub steps : ℕ
+  pub state : A64State
+
 -- its answer, and the memory bytes afterwards
 pub record Result : Type 0 where
   pub answer : Answer
@@ -72,6 +80,11 @@ accepted r =
 -- a refusal leaves state and memory
 abbrev pub refused : ℕ → A64State → Answer
 refused n s = record { refusal = n; end = 0; steps = 0; state = s }
+
+-- the answer of the code
+abbrev pub numbers : RustResult Declared.Ran (Refused A64State) → Answer
+numbers (Ok r) = record { refusal = Refusals.accepted; end = end_number r.end; steps = r.steps; state = r.state }
+numbers (Err e) = refused (Refusals.number e.refusal) e.given
 
 -- the refusals, else the run r
 unfoldable pub answered : List ℕ → A64State → List ℕ → ℕ → Ran → Result

@@ -2,154 +2,92 @@
 ghost use Rattle.std.specs.Prelude.{◌≡◌, ◌+◌, ◌*◌, ◌^◌, ◌≤◌, length, nat_lt};
 ghost use Rattle.le.specs.Le.{load};
 ghost use Rattle.a64.specs.Forms.{decode};
-ghost use Rattle.a64_exec.specs.Exec.{machine};
-ghost use Rattle.a64_exec.specs.Parts.{Executed};
+ghost use Rattle.a64_exec.specs.Exec.{after, exec};
+ghost use Rattle.a64_exec.specs.Parts.{held};
 ghost use Rattle.a64_run.specs.Run as A64;
 
-use a64_alu::Flags;
-use a64_exec::exec;
-use a64_exec::exec::{Outcome, Stepped};
+use a64_exec::exec::{Machine, Outcome};
 use a64_exec::state::A64State;
-use rules::refusals;
+use rules::refusals::{Refusal, Refused};
 
 // How a run ended.
-#[derive(Drop)]
+#[derive(Clone, Copy, PartialEq, Eq, Debug)]
 pub enum End {
-    OffEnd,
-    Spent,
-    Unreadable,
-    Fault,
-    Returned,
-    Called,
+    OffEnd = 1,
+    Spent = 2,
+    Unreadable = 3,
+    Fault = 4,
+    Returned = 5,
+    Called = 6,
 }
 
-// The end, the steps done, SP and the flags after them.
+// Document 01's number of an end.
+impl From<End> for u32 {
+    ghost from_gives = { λ end n. n ≡ A64.end_number end };
+
+    fn from(end: End) -> u32 {
+        end as u32
+    }
+}
+
+// How a run ended, the steps done and the state after them.
 #[derive(Drop)]
 pub struct Ran {
     pub end: End,
     pub steps: u64,
-    pub sp: u64,
-    pub flags: Flags,
-}
-
-// The refusal, or 0 and document 01's number of the end, the steps done and the state after them.
-#[derive(Drop)]
-pub struct Answer {
-    pub refusal: u32,
-    pub end: u32,
-    pub steps: u64,
     pub state: A64State,
 }
 
-fn end_number(e: End) -> u32
-    ensures { result ≡ A64.end_number e }
-{
-    match e {
-        End::OffEnd => 1,
-        End::Spent => 2,
-        End::Unreadable => 3,
-        End::Fault => 4,
-        End::Returned => 5,
-        End::Called => 6,
-    }
-}
-
 // Word i of the block, read and executed.
-fn step(
-    x: &mut [u64; 31],
-    sp: u64,
-    flags: Flags,
-    block: &[u8],
-    i: usize,
-    memory: &mut [u8],
-    base: u64,
-) -> Stepped
-    requires { (length x.old ≡ 31) × (4 * i + 4 ≤ length block.now) }
-    ensures { Executed (decode (load 4 block.now (4 * i))) (machine x.old sp flags base memory.old) result x.new memory.new }
+#[tactic(auto, using(a64::proofs::Coding::decode_in_range))]
+fn step(machine: &mut Machine, block: &[u8], i: usize) -> Outcome
+    requires { 4 * i + 4 ≤ length block.now }
+    ensures goes { exec (decode (load 4 block.now (4 * i))) (held machine.old) ≡ after result (held machine.new) }
+    ensures x_lent { machine.new.x.ghost_name ≡ machine.old.x.ghost_name }
+    ensures memory_lent { machine.new.memory.ghost_name ≡ machine.old.memory.ghost_name }
+    ensures size { length machine.new.memory.now ≡ length machine.old.memory.now }
 {
-    let w = le::load::<u32>(block, 4 * i);
-    exec::exec(x, sp, flags, a64::decode(w), memory, base)
+    machine.exec(a64::decode(le::load(block, 4 * i)))
 }
 
-fn ended(end: End, steps: u64, sp: u64, flags: Flags) -> Ran
-    ensures { (result.end ≡ end) × (result.steps ≡ steps) × (result.sp ≡ sp) × (result.flags ≡ flags) }
-{
-    Ran {
-        end,
-        steps,
-        sp,
-        flags,
-    }
-}
-
-// Runs the block's words from the one numbered `first` until one ends the run.
-// The registers are lent: in a state by value they would be copied on the way out.
+// Runs the block's words from the one numbered `first` until one ends the run: how it ended, and the steps done.
 fn run_words(
+    machine: &mut Machine,
     block: &[u8],
     address: u64,
     first: u64,
-    x: &mut [u64; 31],
-    sp: u64,
-    flags: Flags,
     budget: u64,
-    memory: &mut [u8],
-    base: u64,
-) -> Ran
-    requires { length x.old ≡ 31 }
-    ensures { A64.ran result.end result.steps (machine x.new result.sp result.flags base memory.new) ≡ A64.from block.now address first budget (machine x.old sp flags base memory.old) }
+) -> (End, u64)
+    ensures ran { A64.ran result.0 result.1 (held machine.new) ≡ A64.from block.now address first budget (held machine.old) }
+    ensures x_lent { machine.new.x.ghost_name ≡ machine.old.x.ghost_name }
+    ensures memory_lent { machine.new.memory.ghost_name ≡ machine.old.memory.ghost_name }
+    ensures size { length machine.new.memory.now ≡ length machine.old.memory.now }
 {
     let count = (block.len() / 4) as u64;
-    let mut sp = sp;
-    let mut flags = flags;
-    let mut i = first;
-    let mut k = 0;
-    while i < count {
+    for i in first..count {
+        let k = i - first;
         if k == budget {
-            return ended(End::Spent, k, sp, flags);
+            return (End::Spent, k);
         }
-        let r = step(x, sp, flags, block, i as usize, memory, base);
-        sp = r.sp;
-        let after = r.flags;
-        flags = after;
-        let outcome = r.outcome;
-        match outcome {
+        match step(machine, block, i as usize) {
             Outcome::Next => {}
-            Outcome::Fault => return ended(End::Fault, k, sp, flags),
-            Outcome::Unreadable => return ended(End::Unreadable, k, sp, flags),
-            Outcome::Return => return ended(End::Returned, k + 1, sp, flags),
+            Outcome::Fault => return (End::Fault, k),
+            Outcome::Unreadable => return (End::Unreadable, k),
+            Outcome::Return => return (End::Returned, k + 1),
             Outcome::Call => {
-                x[30] = std::num::wrapping_add_u64(address, 4 * i + 4);
-                return ended(End::Called, k + 1, sp, flags);
+                machine.link(address.wrapping_add(4 * i + 4));
+                return (End::Called, k + 1);
             }
         }
-        i += 1;
-        k += 1;
     }
-    ended(End::OffEnd, k, sp, flags)
+    (End::OffEnd, count.saturating_sub(first))
 }
 
 // Whether `len` bytes from `base` on end beyond 2^64.
 fn beyond(base: u64, len: u64) -> bool
     ensures { result ≡ nat_lt (2 ^ 64) (base + len) }
 {
-    if base == 0 {
-        return false;
-    }
-    if 0xFFFF_FFFF_FFFF_FFFF - base + 1 < len {
-        return true;
-    }
-    false
-}
-
-fn refused(n: u32, state: A64State) -> Answer
-    ensures { result ≡ A64.refused n state }
-{
-    Answer {
-        refusal: n,
-        end: 0,
-        steps: 0,
-        state: state,
-    }
+    len > 0 && base.checked_add(len - 1).is_none()
 }
 
 // A64 run from (document 02, No. 5): the words of `block` from the one numbered `first`;
@@ -158,44 +96,36 @@ pub fn a64_run_from(
     block: &[u8],
     address: u64,
     first: u64,
-    state: A64State,
+    mut state: A64State,
     budget: u64,
     memory: &mut [u8],
     base: u64,
-) -> Answer
-    ensures { A64.result result memory.new ≡ A64.a64_run_from block.now address first state budget memory.old base }
+) -> Result<Ran, Refused<A64State>>
+    ensures { A64.result (A64.numbers result) memory.new ≡ A64.a64_run_from block.now address first state budget memory.old base }
 {
     if block.len() % 4 != 0 {
-        return refused(refusals::BLOCK_LENGTH, state);
+        return Err(Refused {
+            refusal: Refusal::BlockLength,
+            given: state,
+        });
     }
-    let past = beyond(base, memory.len() as u64);
-    if past {
-        return refused(refusals::MEMORY_EXCEEDS_TOP, state);
+    if beyond(base, memory.len() as u64) {
+        return Err(Refused {
+            refusal: Refusal::MemoryExceedsTop,
+            given: state,
+        });
     }
-    let mut after = state;
-    let sp = after.sp;
-    let flags = after.flags;
-    let ran = run_words(
-        block,
-        address,
-        first,
-        &mut after.x,
-        sp,
-        flags,
-        budget,
+    let mut machine = Machine {
+        x: &mut state.x,
+        sp: state.sp,
+        flags: state.flags,
         memory,
         base,
-    );
-    let flags = ran.flags;
-    after.sp = ran.sp;
-    after.flags = flags;
-    let end = ran.end;
-    Answer {
-        refusal: 0,
-        end: end_number(end),
-        steps: ran.steps,
-        state: after,
-    }
+    };
+    let (end, steps) = run_words(&mut machine, block, address, first, budget);
+    state.sp = machine.sp;
+    state.flags = machine.flags;
+    Ok(Ran { end, steps, state })
 }
 
 // A64 run (document 01): from word 0.
@@ -206,8 +136,8 @@ pub fn a64_run(
     budget: u64,
     memory: &mut [u8],
     base: u64,
-) -> Answer
-    ensures { A64.result result memory.new ≡ A64.a64_run block.now address state budget memory.old base }
+) -> Result<Ran, Refused<A64State>>
+    ensures { A64.result (A64.numbers result) memory.new ≡ A64.a64_run block.now address state budget memory.old base }
 {
     a64_run_from(block, address, 0, state, budget, memory, base)
 }

@@ -4,8 +4,7 @@ use Rattle.le.specs.Le.{all_bytes}
 use Rattle.emit_native.specs.declared.Host.{Host}
 use Rattle.translator.specs.Translate as T
 use Rattle.code_cache.specs.Place as P
-use Rattle.rv64_run.specs.declared.run.Answer as RvAnswer
-use Rattle.rv64_run.specs.Run.{number, answer}
+use Rattle.rv64_run.specs.Run as Rv64
 use Rattle.a64_run.specs.Run as A64
 use Rattle.state_bytes.specs.States.{a64_state, a64_bytes, rv64_hart}
 use Rattle.hilofanur.specs.declared.TranslateAnswer.{TranslateAnswer}
@@ -96,13 +95,13 @@ abbrev pub rv64_result : Rv64RunAnswer → List ℕ → Rv64Result
 rv64_result a registers = record { answer = a; registers = registers }
 
 -- a refusal leaves the registers' bytes
-abbrev pub rv64_of : List ℕ → RvAnswer.Answer → Rv64Result
+abbrev pub rv64_of : List ℕ → Rv64.Answer → Rv64Result
 rv64_of registers a =
-    rv64_result (record { refusal = number a.refusal; count = a.count; next_pc = a.hart.pc })
-    (cond (eqb (number a.refusal) 0) (all_bytes 8 a.hart.x) registers)
+    rv64_result (record { refusal = Rv64.number a.refusal; count = a.count; next_pc = a.hart.pc })
+    (cond (eqb (Rv64.number a.refusal) 0) (all_bytes 8 a.hart.x) registers)
 
 abbrev pub rv64_run : List ℕ → ℕ → ℕ → Bool → List ℕ → Rv64Result
-rv64_run guest pc limit e registers = rv64_of registers (answer guest (rv64_hart registers pc) limit e)
+rv64_run guest pc limit e registers = rv64_of registers (Rv64.answer guest (rv64_hart registers pc) limit e)
 
 -- ---- List: the answer by the names of the operation
 

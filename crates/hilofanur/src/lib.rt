@@ -14,7 +14,7 @@ ghost use Rattle.block_index.specs.Model as Model;
 ghost use Rattle.code_cache.specs.Place as P;
 ghost use Rattle.hilofanur.specs.Answers as Answers;
 
-use block_log::{Entry, Index};
+use block_log::Entry;
 use code_cache::Placed;
 use emit_native::Host;
 use listing::ListRefusal;
@@ -183,12 +183,19 @@ pub extern "C" fn hilofanur_translate(
         helper16,
         ignore_ebreak,
     };
-    let a = translation::translate(guest, pc, limit, host, output);
-    TranslateAnswer {
-        refusal: a.refusal,
-        length: a.length,
-        count: a.count,
-        end: a.end,
+    match translation::translate(guest, pc, limit, host, output) {
+        Ok(block) => TranslateAnswer {
+            refusal: 0,
+            length: block.length,
+            count: block.count,
+            end: u32::from(block.end),
+        },
+        Err(refusal) => TranslateAnswer {
+            refusal: u32::from(refusal),
+            length: 0,
+            count: 0,
+            end: 0,
+        },
     }
 }
 
@@ -228,25 +235,25 @@ pub extern "C" fn hilofanur_a64_run_from(
     ensures { Answers.a64_result result state.new memory.new ≡ Answers.a64_run_from block.now address first state.old budget memory.old base }
 {
     let before = a64_state::from_bytes(state);
-    let answer = a64_run::run::a64_run_from(block, address, first, before, budget, memory, base);
-    let refusal = answer.refusal;
-    if refusal != 0 {
-        return A64RunAnswer {
-            refusal: refusal,
-            end: answer.end,
-            steps: answer.steps,
-        };
-    }
-    let after = answer.state;
-    a64_state::to_bytes(after, state);
-    A64RunAnswer {
-        refusal: refusal,
-        end: answer.end,
-        steps: answer.steps,
+    match a64_run::run::a64_run_from(block, address, first, before, budget, memory, base) {
+        Ok(ran) => {
+            a64_state::to_bytes(ran.state, state);
+            A64RunAnswer {
+                refusal: 0,
+                end: u32::from(ran.end),
+                steps: ran.steps,
+            }
+        }
+        Err(refused) => A64RunAnswer {
+            refusal: u32::from(refused.refusal),
+            end: 0,
+            steps: 0,
+        },
     }
 }
 
 // registers: the 32 of them, eight bytes each.
+#[tactic(auto, unfolding(rv64_run::specs::Run::number))]
 #[unsafe(no_mangle)]
 pub extern "C" fn hilofanur_rv64_run(
     guest: &[u8],
@@ -258,23 +265,20 @@ pub extern "C" fn hilofanur_rv64_run(
     ensures { Answers.rv64_result result registers.new ≡ Answers.rv64_run guest.now pc limit ignore_ebreak registers.old }
 {
     let before = rv64_hart::from_bytes(registers, pc);
-    let answer = rv64_run::run::rv64_run(guest, before, limit, ignore_ebreak);
-    let why = answer.refusal;
-    let refusal = rv64_run::run::number(why);
-    let after = answer.hart;
-    let next_pc = after.pc;
-    if refusal != 0 {
-        return Rv64RunAnswer {
-            refusal: refusal,
-            count: answer.count,
-            next_pc: next_pc,
-        };
-    }
-    rv64_hart::to_bytes(after, registers);
-    Rv64RunAnswer {
-        refusal: refusal,
-        count: answer.count,
-        next_pc: next_pc,
+    match rv64_run::run::rv64_run(guest, before, limit, ignore_ebreak) {
+        Ok(ran) => {
+            rv64_hart::to_bytes(ran.hart, registers);
+            Rv64RunAnswer {
+                refusal: 0,
+                count: ran.count,
+                next_pc: ran.hart.pc,
+            }
+        }
+        Err(refused) => Rv64RunAnswer {
+            refusal: u32::from(refused.refusal),
+            count: 0,
+            next_pc: 0,
+        },
     }
 }
 
@@ -287,7 +291,7 @@ pub extern "C" fn hilofanur_list(block: &[u8], output: &mut [u8]) -> ListAnswer
 
 // index: block_log's layout. Emptied once, it is the calls' own.
 #[unsafe(no_mangle)]
-pub extern "C" fn hilofanur_index_empty(index: &mut Index)
+pub extern "C" fn hilofanur_index_empty(index: &mut [u8; block_log::INDEX_BYTES])
     ensures { index.new ≡ emptied index.old }
 {
     block_index::empty(index);
@@ -295,7 +299,7 @@ pub extern "C" fn hilofanur_index_empty(index: &mut Index)
 
 #[unsafe(no_mangle)]
 pub extern "C" fn hilofanur_index_place(
-    index: &mut Index,
+    index: &mut [u8; block_log::INDEX_BYTES],
     store: &mut [u8],
     space: u64,
     pc: u64,
@@ -308,7 +312,11 @@ pub extern "C" fn hilofanur_index_place(
 }
 
 #[unsafe(no_mangle)]
-pub extern "C" fn hilofanur_index_lookup(index: &Index, space: u64, pc: u64) -> IndexLookupAnswer
+pub extern "C" fn hilofanur_index_lookup(
+    index: &[u8; block_log::INDEX_BYTES],
+    space: u64,
+    pc: u64,
+) -> IndexLookupAnswer
     ensures { Looks index.now space pc (Answers.found result) }
 {
     IndexLookupAnswer::from(block_index::lookup(index, space, pc))

@@ -1,6 +1,6 @@
 // The encodings of Zbb.
-ghost use Rattle.std.specs.Prelude.{◌≡◌};
-ghost use Rattle.isa.specs.Zbb as Z;
+ghost use Rattle.std.specs.Prelude.{◌≡◌, ◌+◌, ◌*◌, ◌/◌, ◌^◌, ◌≤◌};
+ghost use Rattle.isa.specs.Formats as F;
 
 // What is computed.
 #[derive(Drop)]
@@ -38,25 +38,19 @@ pub enum Found {
     Number(Zbb, u64),
     // none
     Unary(Zbb),
-    // no Zbb instruction
-    Nothing,
 }
 
-// funct7, funct3 and the opcode, side by side; the same of funct12, and of funct6.
-pub fn funct7_key(w: u32) -> u32
-    ensures { result ≡ Z.key 25 w }
-{
-    w / 0x200_0000 * 1024 + w / 4096 % 8 * 128 + w % 128
-}
+// Where funct7, funct12 and funct6 begin.
+pub const FUNCT7: u32 = 0x200_0000;
 
-pub fn funct12_key(w: u32) -> u32
-    ensures { result ≡ Z.key 20 w }
-{
-    w / 0x10_0000 * 1024 + w / 4096 % 8 * 128 + w % 128
-}
+pub const FUNCT12: u32 = 0x10_0000;
 
-pub fn funct6_key(w: u32) -> u32
-    ensures { result ≡ Z.key 26 w }
+pub const FUNCT6: u32 = 0x400_0000;
+
+// The field that begins at this unit, funct3 and the opcode, side by side.
+pub fn key<const UNIT: u32>(w: u32) -> u32
+    requires { 2 ^ 20 ≤ UNIT }
+    ensures { result ≡ w / UNIT * 2 ^ 10 + F.funct3 w * 2 ^ 7 + F.opcode w }
 {
-    w / 0x400_0000 * 1024 + w / 4096 % 8 * 128 + w % 128
+    w / UNIT * 1024 + w / 4096 % 8 * 128 + w % 128
 }

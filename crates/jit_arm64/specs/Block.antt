@@ -1,19 +1,18 @@
 -- `compile_native_block`: the walk over the guest code, and the end of the block.
-use Rattle.std.specs.Prelude.{ℕ, zero, suc, ◌+◌, ◌*◌, ◌%◌, ◌^◌, min, Bool, true, false, cond, List, [], ◌∷◌, ◌++◌, length, ◌==◌, nat_le}
+use Rattle.std.specs.Prelude.{ℕ, zero, suc, ◌+◌, ◌*◌, ◌%◌, ◌^◌, min, Bool, true, false, cond, List, [], ◌∷◌, ◌++◌, length, ◌==◌, nat_le, Some, None}
 use Rattle.std.proofs.Math.Option.{Option, none, some}
 use Rattle.word.specs.Word.{add}
 use Rattle.le.specs.Le.{load}
 use Rattle.emit_native.specs.declared.Host.{Host}
-use Rattle.emit_native.specs.declared.EmitFlow.{EmitFlow}
-use Rattle.emit_native.specs.declared.EmitFlow.TheVariants.{Continue, Terminate, None}
+use Rattle.emit_native.specs.declared.EmitFlow.TheVariants.{Continue, Terminate}
 use Rattle.jit_arm64.specs.declared.block.Stop.{Stop}
 use Rattle.jit_arm64.specs.declared.block.Stop.TheVariants.{Limit, Ended, Helper, Uncovered, NotFetched}
 use Rattle.a64_emitter.specs.Writers.{ret}
 use Rattle.a64_emitter.specs.Emitter.{bytes}
-use Rattle.emit_native.specs.Calls.{Call, Dialect, rust, product, emit, mov_imm64, words_in, Emission}
+use Rattle.emit_native.specs.Calls.{Call, Flow, Dialect, rust, product, emit, mov_imm64, words_in, Emission}
 use Rattle.isa.specs.declared.zbb.Found.{Found}
 use Rattle.isa.specs.Decode.{decode32}
-use Rattle.isa.specs.Zbb.{find}
+use Rattle.isa.specs.Zbb.{find, MaybeZbb}
 use Rattle.instr16.specs.Instr16.{emit_native_instr16}
 use Rattle.instr32.specs.Instr32.{emit_native_instr}
 use Rattle.term_helper.specs.TermHelper.{emit_native_term_helper16, emit_native_term_helper32}
@@ -60,14 +59,14 @@ emit_term_helper h pc instr emitted =
     cond (is_32 instr) (emit_native_term_helper32 h pc instr (decode32 instr) emitted) (emit_native_term_helper16 h pc instr emitted)
 
 -- the Zbb instruction that it is, of 32 bits
-unfoldable pub zbb_of : ℕ → Found
-zbb_of instr = cond (is_32 instr) (find instr) Found.Nothing
+unfoldable pub zbb_of : ℕ → MaybeZbb
+zbb_of instr = cond (is_32 instr) (find instr) None
 
-unfoldable pub zbb_first : Found → ℕ → Emission → Emission
-zbb_first Found.Nothing instr e = e
-zbb_first (Found.Register z) instr e = emission (Found.Register z) instr
-zbb_first (Found.Number z n) instr e = emission (Found.Number z n) instr
-zbb_first (Found.Unary z) instr e = emission (Found.Unary z) instr
+unfoldable pub zbb_first : MaybeZbb → ℕ → Emission → Emission
+zbb_first None instr e = e
+zbb_first (Some (Found.Register z)) instr e = emission (Some (Found.Register z)) instr
+zbb_first (Some (Found.Number z n)) instr e = emission (Some (Found.Number z n)) instr
+zbb_first (Some (Found.Unary z)) instr e = emission (Some (Found.Unary z)) instr
 
 -- the product takes Zbb first, and the Rust's emitters after it (document 02, No. 7)
 unfoldable pub emit_inline : Dialect → Host → ℕ → ℕ → Emission
@@ -90,16 +89,16 @@ abbrev pub in_front : List Call → Walk → Walk
 in_front cs w = walked (cs ++ w.calls) w.count w.stop w.pc
 
 -- the helper's emitter took the instruction, or it is not covered
-unfoldable pub helped : EmitFlow → List Call → ℕ → ℕ → Walk
-helped Terminate cs emitted pc = walked cs (suc emitted) Helper pc
-helped Continue cs emitted pc = walked cs emitted Uncovered pc
+unfoldable pub helped : Flow → List Call → ℕ → ℕ → Walk
+helped (Some Terminate) cs emitted pc = walked cs (suc emitted) Helper pc
+helped (Some Continue) cs emitted pc = walked cs emitted Uncovered pc
 helped None cs emitted pc = walked cs emitted Uncovered pc
 
 -- an instruction of n bytes, by the inline emitter's flow; where it answers None, the helper's words follow
 -- rest: how the loop goes on, from the count and the index after the instruction
-unfoldable pub step : EmitFlow → Emission → Emission → ℕ → ℕ → ℕ → ℕ → (ℕ → ℕ → Walk) → Walk
-step Continue e helper n start emitted i rest = in_front e.calls (rest (suc emitted) (i + n))
-step Terminate e helper n start emitted i rest = walked e.calls (suc emitted) Ended (add start (i + n))
+unfoldable pub step : Flow → Emission → Emission → ℕ → ℕ → ℕ → ℕ → (ℕ → ℕ → Walk) → Walk
+step (Some Continue) e helper n start emitted i rest = in_front e.calls (rest (suc emitted) (i + n))
+step (Some Terminate) e helper n start emitted i rest = walked e.calls (suc emitted) Ended (add start (i + n))
 step None e helper n start emitted i rest = helped helper.flow (e.calls ++ helper.calls) emitted (add start i)
 
 -- the instruction that was fetched, or none. d: whose inline emitter

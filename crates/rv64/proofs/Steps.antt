@@ -1,5 +1,5 @@
 -- What the stepper's parts do is what the decoded instruction does.
-use Rattle.std.proofs.Common.{◌≡◌, ℕ, ◌+◌, ◌*◌, ◌%◌, ◌<◌, Bool, true, false, cond, eqb, ltb, List, [], ◌∷◌, set, refl, ap, eq-eqb, ne_eqb}
+use Rattle.std.proofs.Common.{Option, Some, None, ◌≡◌, ℕ, ◌+◌, ◌*◌, ◌%◌, ◌<◌, Bool, true, false, cond, eqb, ltb, List, [], ◌∷◌, set, refl, ap, eq-eqb, ne_eqb}
 use native.Mathlib.Omega as N
 use Rattle.isa.specs.declared.classes.Class.{Class}
 use Rattle.isa.specs.Classes.{class_of}
@@ -9,7 +9,6 @@ use Rattle.rv64.specs.declared.alu.Alu.{Alu}
 use Rattle.rv64.specs.declared.alu.Cond.{Cond}
 use Rattle.rv64.specs.declared.decode.Instr.{Instr}
 use Rattle.rv64.specs.declared.execute.Effect.{Effect}
-use Rattle.rv64.specs.declared.execute.Computed.{Computed}
 use Rattle.rv64.specs.Alu.{value, taken}
 use Rattle.rv64.specs.Decode as D
 use Rattle.rv64.specs.Execute.{Step, exec, read, write}
@@ -42,10 +41,10 @@ computing = (0x33, 0) ∷ (0x13, 0) ∷ (0x3B, 0) ∷ (0x1B, 0) ∷ (0x37, 0) �
 
 -- the registers that are set
 
-put-sets : (c : Computed) (rd : ℕ) → rd < 32 → S.sets (S.put c rd) < 32
+put-sets : (c : Option ℕ) (rd : ℕ) → rd < 32 → S.sets (S.put c rd) < 32
 unfolding S.put
-put-sets (Computed.Value v) rd q = q
-put-sets Computed.Reserved rd q = omega N.arith
+put-sets (Some v) rd q = q
+put-sets None rd q = omega N.arith
 
 pub pick_sets : (b : Bool) (e f : Effect) → S.sets e < 32 → S.sets f < 32 → S.sets (cond b e f) < 32
 pick_sets true e f p q = p
@@ -57,13 +56,13 @@ table_sets make other ((k, a) ∷ t) n p q = pick_sets (eqb n k) _ _ (p a) (tabl
 
 module _ (w pc : ℕ) (x : List ℕ) where
   -- what a table computes of a and b, put in rd, against the instructions that it makes
-  module _ (n rd a b : ℕ) (r : rd < 32) (t : D.Table Alu) (k : ℕ) (make : Alu → Instr) (p : (u : Alu) → S.applied (S.put (Computed.Value (value u a b)) rd) (add pc n) x ≡ exec (make u) n pc x) where
-    pub table : (other : Computed) (rest : Instr) → S.applied (S.put other rd) (add pc n) x ≡ exec rest n pc x → S.Gives (S.put (S.computed t k a b other) rd) (D.lookup t k make rest) n pc x
+  module _ (n rd a b : ℕ) (r : rd < 32) (t : D.Table Alu) (k : ℕ) (make : Alu → Instr) (p : (u : Alu) → S.applied (S.put (Some (value u a b)) rd) (add pc n) x ≡ exec (make u) n pc x) where
+    pub table : (other : Option ℕ) (rest : Instr) → S.applied (S.put other rd) (add pc n) x ≡ exec rest n pc x → S.Gives (S.put (S.computed t k a b other) rd) (D.lookup t k make rest) n pc x
     table other rest q =
-        (put-sets (S.computed t k a b other) rd r, both (λ (c : Computed). S.applied (S.put c rd) (add pc n) x) (λ (i : Instr). exec i n pc x) (λ (u : Alu). Computed.Value (value u a b)) make t k p q)
+        (put-sets (S.computed t k a b other) rd r, both (λ (c : Option ℕ). S.applied (S.put c rd) (add pc n) x) (λ (i : Instr). exec i n pc x) (λ (u : Alu). Some (value u a b)) make t k p q)
 
   -- a table of OP or OP-32
-  pub op : (t : D.Table Alu) → S.Gives (S.put (S.computed t (D.funct10 w) (read x (rs1 w)) (read x (rs2 w)) Computed.Reserved) (rd w)) (D.lookup t (D.funct10 w) (D.reg w) Instr.Uncovered) 4 pc x
+  pub op : (t : D.Table Alu) → S.Gives (S.put (S.computed t (D.funct10 w) (read x (rs1 w)) (read x (rs2 w)) None) (rd w)) (D.lookup t (D.funct10 w) (D.reg w) Instr.Uncovered) 4 pc x
   unfolding S.put S.applied exec
   op t = table 4 (rd w) _ _ (omega N.arith) t (D.funct10 w) (D.reg w) (λ k. refl) _ _ refl
 

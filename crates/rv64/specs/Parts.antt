@@ -1,16 +1,15 @@
 -- What the functions of this crate promise one another; no operation's contract reaches it.
 -- Each is by the definitions of what an instruction does.
-use Rattle.std.specs.Prelude.{◌≡◌, ℕ, ◌+◌, ◌*◌, ◌<◌, Bool, cond, List, [], ◌∷◌, nat_lt}
+use Rattle.std.specs.Prelude.{Option, Some, None, ◌≡◌, ℕ, ◌+◌, ◌*◌, ◌<◌, Bool, cond, List, [], ◌∷◌, nat_lt}
 use Rattle.word.specs.Word.{add}
 use Rattle.isa.specs.declared.zbb.Found.{Found}
-use Rattle.isa.specs.Zbb.{find}
+use Rattle.isa.specs.Zbb.{find, MaybeZbb}
 use Rattle.isa.specs.Formats.{inst, opcode, rd, rs1, rs2, funct3, i_imm}
 use Rattle.rv64.specs.declared.alu.Alu.{Alu}
 use Rattle.rv64.specs.declared.alu.Cond.{Cond}
 use Rattle.rv64.specs.declared.decode.Instr.{Instr}
 use Rattle.rv64.specs.declared.execute.Flow.{Flow}
 use Rattle.rv64.specs.declared.execute.Effect.{Effect}
-use Rattle.rv64.specs.declared.execute.Computed.{Computed}
 use Rattle.rv64.specs.Alu.{value, taken}
 use Rattle.rv64.specs.Zbb.{zbb_value}
 use Rattle.rv64.specs.Decode.{Table, lookup, itself, imms, shifts, imms32, shifts32, branches, funct10}
@@ -44,32 +43,32 @@ abbrev pub Gives : Effect → Instr → ℕ → ℕ → List ℕ → Type 0
 Gives e i n pc x = (sets e < 32) × (applied e (add pc n) x ≡ exec i n pc x)
 
 -- what a table's entry at n computes of x and y
-abbrev pub computed : Table Alu → ℕ → ℕ → ℕ → Computed → Computed
-computed t n x y other = lookup t n (λ (k : Alu). Computed.Value (value k x y)) other
+abbrev pub computed : Table Alu → ℕ → ℕ → ℕ → Option ℕ → Option ℕ
+computed t n x y other = lookup t n (λ (k : Alu). Some (value k x y)) other
 
-unfoldable pub shift_imm : ℕ → ℕ → Computed
-shift_imm w x = computed shifts (inst 31 26 w * 8 + funct3 w) x (inst 25 20 w) Computed.Reserved
+unfoldable pub shift_imm : ℕ → ℕ → Option ℕ
+shift_imm w x = computed shifts (inst 31 26 w * 8 + funct3 w) x (inst 25 20 w) None
 
-unfoldable pub op_imm : ℕ → ℕ → Computed
+unfoldable pub op_imm : ℕ → ℕ → Option ℕ
 op_imm w x = computed imms (funct3 w) x (i_imm w) (shift_imm w x)
 
-unfoldable pub shift_imm_32 : ℕ → ℕ → Computed
-shift_imm_32 w x = computed shifts32 (funct10 w) x (inst 24 20 w) Computed.Reserved
+unfoldable pub shift_imm_32 : ℕ → ℕ → Option ℕ
+shift_imm_32 w x = computed shifts32 (funct10 w) x (inst 24 20 w) None
 
-unfoldable pub op_imm_32 : ℕ → ℕ → Computed
+unfoldable pub op_imm_32 : ℕ → ℕ → Option ℕ
 op_imm_32 w x = computed imms32 (funct3 w) x (i_imm w) (shift_imm_32 w x)
 
 -- what a Zbb instruction computes of x and y
-unfoldable pub zbb_computed : Found → ℕ → ℕ → Computed
-zbb_computed (Found.Register z) x y = Computed.Value (zbb_value z x y)
-zbb_computed (Found.Number z n) x y = Computed.Value (zbb_value z x n)
-zbb_computed (Found.Unary z) x y = Computed.Value (zbb_value z x 0)
-zbb_computed Found.Nothing x y = Computed.Reserved
+unfoldable pub zbb_computed : MaybeZbb → ℕ → ℕ → Option ℕ
+zbb_computed (Some (Found.Register z)) x y = Some (zbb_value z x y)
+zbb_computed (Some (Found.Number z n)) x y = Some (zbb_value z x n)
+zbb_computed (Some (Found.Unary z)) x y = Some (zbb_value z x 0)
+zbb_computed None x y = None
 
 -- a computed value in rd
-unfoldable pub put : Computed → ℕ → Effect
-put (Computed.Value v) rd = Effect.Set rd v
-put Computed.Reserved rd = Effect.Uncovered
+unfoldable pub put : Option ℕ → ℕ → Effect
+put (Some v) rd = Effect.Set rd v
+put None rd = Effect.Uncovered
 
 -- the effect of a Zbb word on the registers x
 unfoldable pub zbb_effect : ℕ → List ℕ → Effect

@@ -45,12 +45,6 @@ pub enum Cond {
     Geu,
 }
 
-pub fn bit(b: bool) -> u64
-    ensures { result ≡ N.bit b }
-{
-    if b { 1 } else { 0 }
-}
-
 pub fn sextw(x: u64) -> u64
     ensures { result ≡ N.sextw x }
 {
@@ -61,18 +55,16 @@ pub fn sextw(x: u64) -> u64
 fn overflows(least: u64, x: u64, y: u64) -> bool
     ensures { result ≡ N.overflows least x y }
 {
-    if x != least {
-        return false;
-    }
-    y == 0xFFFF_FFFF_FFFF_FFFF
+    x == least && y == u64::MAX
 }
 
 // The signed quotient.
+#[tactic(auto, unfolding(crate::specs::Alu::quotient))]
 pub fn quotient(least: u64, x: u64, y: u64) -> u64
     ensures { result ≡ N.quotient least x y }
 {
     if y == 0 {
-        return 0xFFFF_FFFF_FFFF_FFFF;
+        return u64::MAX;
     }
     if overflows(least, x, y) {
         return x;
@@ -80,6 +72,7 @@ pub fn quotient(least: u64, x: u64, y: u64) -> u64
     word::sdiv(x, y)
 }
 
+#[tactic(auto, unfolding(crate::specs::Alu::remainder))]
 pub fn remainder(least: u64, x: u64, y: u64) -> u64
     ensures { result ≡ N.remainder least x y }
 {
@@ -93,20 +86,16 @@ pub fn remainder(least: u64, x: u64, y: u64) -> u64
 }
 
 // The unsigned quotient; most is the greatest number of the width.
+#[tactic(auto, unfolding(crate::specs::Alu::quotient_u))]
 pub fn quotient_u(most: u64, x: u64, y: u64) -> u64
     ensures { result ≡ N.quotient_u most x y }
 {
-    if y == 0 {
-        return most;
-    }
-    x / y
+    x.checked_div(y).unwrap_or(most)
 }
 
+#[tactic(auto, unfolding(crate::specs::Alu::remainder_u))]
 pub fn remainder_u(x: u64, y: u64) -> u64
     ensures { result ≡ N.remainder_u x y }
 {
-    if y == 0 {
-        return x;
-    }
-    x % y
+    x.checked_rem(y).unwrap_or(x)
 }

@@ -3,7 +3,7 @@ ghost use Rattle.std.specs.Prelude.{◌≡◌, ◌<◌};
 ghost use Rattle.rv64.specs.Execute as X;
 ghost use Rattle.rv64.specs.Parts as S;
 
-#[derive(Drop)]
+#[derive(Clone, Copy, PartialEq, Eq, Debug)]
 pub enum Flow {
     // goes on at this PC
     Next(u64),
@@ -13,15 +13,8 @@ pub enum Flow {
     Uncovered,
 }
 
-// What an arithmetic instruction computes.
-#[derive(Drop)]
-pub enum Computed {
-    Value(u64),
-    Reserved,
-}
-
 // What an instruction does, by the registers before it.
-#[derive(Drop)]
+#[derive(Clone, Copy, PartialEq, Eq, Debug)]
 pub enum Effect {
     // the register of this number set to this value, and goes on after the instruction
     Set(u32, u64),
@@ -35,6 +28,7 @@ pub enum Effect {
     Uncovered,
 }
 
+#[tactic(auto, unfolding(crate::specs::Execute::read))]
 pub fn read(x: &[u64; 32], n: u32) -> u64
     requires { n < 32 }
     ensures { result ≡ X.read x.now n }
@@ -47,6 +41,7 @@ pub fn read(x: &[u64; 32], n: u32) -> u64
 }
 
 // Register rd set to v.
+#[tactic(auto, unfolding(crate::specs::Execute::write))]
 pub fn set(x: &mut [u64; 32], rd: u32, v: u64)
     requires { rd < 32 }
     ensures { x.new ≡ X.write x.old rd v }
@@ -59,12 +54,13 @@ pub fn set(x: &mut [u64; 32], rd: u32, v: u64)
 }
 
 // What is computed put in register rd.
-pub fn put(rd: u32, c: Computed) -> Effect
+#[tactic(auto, unfolding(crate::specs::Parts::put))]
+pub fn put(rd: u32, c: Option<u64>) -> Effect
     ensures { result ≡ S.put c rd }
 {
     match c {
-        Computed::Value(v) => Effect::Set(rd, v),
-        Computed::Reserved => Effect::Uncovered,
+        Some(v) => Effect::Set(rd, v),
+        None => Effect::Uncovered,
     }
 }
 
@@ -80,6 +76,7 @@ pub fn ended(taken: bool, to: u64, next: u64) -> Effect
 }
 
 // The effect of an instruction on the registers; next is the address after it.
+#[tactic(auto, unfolding(crate::specs::Parts::applied))]
 pub fn apply(x: &mut [u64; 32], e: Effect, next: u64) -> Flow
     requires { S.sets e < 32 }
     ensures { S.Does (S.applied e next x.old) result x.new }

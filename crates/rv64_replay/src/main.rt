@@ -22,9 +22,17 @@ fn agrees<F: Fn(&mut &[u8]) -> u8>(file: &mut &[u8], read_rule: F, guest: &[u8])
     let next_pc = replay::read_number(file);
     let count = u32::from(replay::read_byte(file));
     let expected = u32::from(read_rule(file));
-    let after = answer.hart;
-    let refusal = answer.refusal;
-    after.x == x && run::number(refusal) == expected && after.pc == next_pc && answer.count == count
+    match answer {
+        Ok(ran) => {
+            ran.hart.x == x && expected == 0 && ran.hart.pc == next_pc && ran.count == count
+        }
+        Err(refused) => {
+            refused.given.x == x
+                && u32::from(refused.refusal) == expected
+                && next_pc == 0
+                && count == 0
+        }
+    }
 }
 
 fn replay_case<F: Fn(&mut &[u8]) -> u8>(file: &mut &[u8], read_rule: F) -> bool

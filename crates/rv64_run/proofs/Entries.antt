@@ -1,4 +1,5 @@
 -- Register 0's entry passes through a run, and touches nothing else. Assumes nothing.
+use Rattle.std.proofs.Common.{Some, None}
 use mathlib.Core.Path.{◌≡◌, refl}
 use mathlib.Core.Bool.{Bool, true, false, cond}
 use mathlib.Core.List.{List, [], ◌∷◌}
@@ -11,9 +12,8 @@ use Rattle.rv64.specs.declared.decode.Instr.{Instr}
 use Rattle.rv64.specs.declared.execute.Flow.{Flow}
 use Rattle.rv64.specs.Execute.{Step, read, write, exec}
 use Rattle.rv64_run.specs.declared.run.Hart.{Hart}
-use Rattle.rv64_run.specs.declared.run.Fetched.{Fetched}
 use Rattle.rv64_run.specs.declared.run.Ran.{Ran}
-use Rattle.rv64_run.specs.Run.{fetch, start, onward, step, run}
+use Rattle.rv64_run.specs.Run.{Fetched, fetch, start, onward, step, run}
 
 -- a step's and a run's registers with 0 for register 0
 abbrev in_step : Step → Step
@@ -70,8 +70,8 @@ onward_same Flow.Uncovered x pc n go h = refl
 step_same : (f : Fetched) (x : List ℕ) (pc n : ℕ) (go : ℕ → Hart → Ran) → ((size : ℕ) (x : List ℕ) (pc : ℕ) → go size (start x pc) ≡ in_run (go size (record { x = x; pc = pc })))
     → step f (start x pc) n go ≡ in_run (step f (record { x = x; pc = pc }) n go)
 unfolding step
-step_same Fetched.Missing x pc n go h = refl
-step_same (Fetched.Found i size) x pc n go h = rw (exec_same i size pc x) (onward_same (exec i size pc x).flow (exec i size pc x).x pc n (go size) (h size))
+step_same None x pc n go h = refl
+step_same (Some (i, size)) x pc n go h = rw (exec_same i size pc x) (onward_same (exec i size pc x).flow (exec i size pc x).x pc n (go size) (h size))
 
 pub run_same : (e : Bool) (k n : ℕ) (bs : List ℕ) (x : List ℕ) (pc : ℕ) → run e k n bs (start x pc) ≡ in_run (run e k n bs (record { x = x; pc = pc }))
 unfolding run

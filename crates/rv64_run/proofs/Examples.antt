@@ -12,18 +12,17 @@ use Rattle.rv64.specs.Decode as D
 use Rattle.rv64.specs.Zbb.{zbb_value}
 use Rattle.rvc.specs.Compressed as C
 use Rattle.rv64.specs.Execute as X
-use Rattle.rv64_run.specs.declared.run.Answer.{Answer}
-use Rattle.rv64_run.specs.declared.run.Refusal.{Refusal}
+use Rattle.std.proofs.Common.{None}
 use Rattle.rv64_run.specs.Run as Rv64
 
 zeros : List ℕ
 zeros = replicate 32 0
 
-ran : List ℕ → ℕ → ℕ → Answer
-ran x pc n = record { refusal = Refusal.Accepted; hart = Rv64.hart x pc; count = n }
+ran : List ℕ → ℕ → ℕ → Rv64.Answer
+ran x pc n = record { refusal = None; hart = Rv64.hart x pc; count = n }
 
 -- with x1 as given
-at1 : List ℕ → ℕ → ℕ → Answer
+at1 : List ℕ → ℕ → ℕ → Rv64.Answer
 at1 guest v limit = Rv64.answer guest (Rv64.hart (set zeros 1 v) 0x1000) limit false
 
 marked : (at1 (0x01 ∷ 0x00 ∷ []) 0 1 ≡ ran zeros 0x1002 1)
@@ -37,7 +36,7 @@ unfolding zeros ran at1 Rv64.answer Rv64.answer_of Rv64.refusal_of Rv64.refusal_
 marked = (refl, refl, refl, refl, refl, refl, refl)
 
 -- register 0's entry, whatever it is, is read as 0 and comes back as 0: c.li x10, -1, which adds to register 0, and c.nop
-from_entry : List ℕ → Answer
+from_entry : List ℕ → Rv64.Answer
 from_entry guest = Rv64.answer guest (Rv64.hart (set zeros 0 0xDEADBEEF) 0x1000) 1 false
 
 register_0 : (from_entry (0x7D ∷ 0x55 ∷ []) ≡ ran (set zeros 10 (2 ^ 64 - 1)) 0x1002 1) × (from_entry (0x01 ∷ 0x00 ∷ []) ≡ ran zeros 0x1002 1)

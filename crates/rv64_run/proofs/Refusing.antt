@@ -1,4 +1,5 @@
 -- A run's refusals 4 and 5, from its count and why it stopped.
+use Rattle.std.proofs.Common.{Option, Some, None, Ok, Err}
 use mathlib.Core.Bool.{Bool, cond}
 use mathlib.Core.Path.{◌≡◌, refl, sym, ap, ◌∙◌}
 use mathlib.Core.List.{List}
@@ -10,13 +11,12 @@ use borrow.Author.Tests.{eq-eqb, ne_eqb}
 use Rattle.rv64.specs.declared.decode.Instr.{Instr}
 use Rattle.rv64.specs.declared.execute.Flow.{Flow}
 use Rattle.rv64_run.specs.declared.run.Hart.{Hart}
-use Rattle.rv64_run.specs.declared.run.Fetched.{Fetched}
 use Rattle.rv64_run.specs.declared.run.Stop.{Stop}
 use Rattle.rv64_run.specs.declared.run.Ran.{Ran}
-use Rattle.rv64_run.specs.declared.run.Refusal.{Refusal}
+use Rattle.rules.specs.declared.refusals.Refusal.{Refusal}
 use Rattle.rv64.specs.Execute.{exec, covered}
-use Rattle.rv64_run.specs.Run.{fetch, run, step, onward, start, clamped, number, refusal_first, refusal_of, answer_of, answer}
-use Rattle.rv64_run.specs.Parts.{at_first, refused}
+use Rattle.rv64_run.specs.Run.{Fetched, fetch, run, step, onward, start, clamped, number, refusal_first, refusal_of, answer_of, answer, numbers}
+use Rattle.rv64_run.specs.Parts.{at_first}
 use Rattle.rv64_run.proofs.Entries.{in_run, run_same}
 
 -- the count never falls
@@ -30,8 +30,8 @@ by_flow Flow.Uncovered x pc n go p = omega arith
 
 by_step : (f : Fetched) (h : Hart) (n : ℕ) (go : ℕ → Hart → Ran) → ((size : ℕ) (h : Hart) → n ≤ (go size h).count) → n ≤ (step f h n go).count
 unfolding step
-by_step Fetched.Missing h n go p = omega arith
-by_step (Fetched.Found i size) h n go p = by_flow (exec i size h.pc h.x).flow _ _ n (go size) (p size)
+by_step None h n go p = omega arith
+by_step (Some (i, size)) h n go p = by_flow (exec i size h.pc h.x).flow _ _ n (go size) (p size)
 
 counted : (e : Bool) (k n : ℕ) (bs : List ℕ) (h : Hart) → n ≤ (run e k n bs h).count
 unfolding run
@@ -40,38 +40,38 @@ counted e (suc k) n bs h =
     by_step (fetch e bs) h n _ (λ size h'. let c = counted e k (n + 1) (drop size bs) h' in omega arith)
 
 -- the refusal by a run's outcome
-unfoldable first : ℕ → Stop → Refusal
-first count stop = cond (eqb count 0) (at_first stop) Refusal.Accepted
+unfoldable first : ℕ → Stop → Option Refusal
+first count stop = cond (eqb count 0) (Some (at_first stop)) None
 
 module _ (h : Hart) (go : ℕ → Hart → Ran) (p : (size : ℕ) (h : Hart) → 1 ≤ (go size h).count) where
-  went : (size : ℕ) (h : Hart) → Refusal.Accepted ≡ first (go size h).count (go size h).stop
+  went : (size : ℕ) (h : Hart) → None ≡ first (go size h).count (go size h).stop
   unfolding first
   went size h' = let c = p size h' in rw (ne_eqb (go size h').count 0 (λ q. omega arith))
 
   by_first : (f : Fetched) → refusal_first f ≡ first (step f h 0 go).count (step f h 0 go).stop
   unfolding refusal_first step onward exec covered first at_first
-  by_first Fetched.Missing = refl
-  by_first (Fetched.Found (Instr.Op k rd rs1 rs2) size) = went size _
-  by_first (Fetched.Found (Instr.OpImm k rd rs1 imm) size) = went size _
-  by_first (Fetched.Found (Instr.Zbb k rd rs1 rs2) size) = went size _
-  by_first (Fetched.Found (Instr.ZbbImm k rd rs1 imm) size) = went size _
-  by_first (Fetched.Found (Instr.Lui rd imm) size) = went size _
-  by_first (Fetched.Found (Instr.Auipc rd imm) size) = went size _
-  by_first (Fetched.Found (Instr.Jal rd imm) size) = refl
-  by_first (Fetched.Found (Instr.Jalr rd rs1 imm) size) = refl
-  by_first (Fetched.Found (Instr.Branch k rs1 rs2 imm) size) = refl
-  by_first (Fetched.Found Instr.Nop size) = went size _
-  by_first (Fetched.Found Instr.FenceI size) = refl
-  by_first (Fetched.Found Instr.Helper size) = refl
-  by_first (Fetched.Found Instr.Uncovered size) = refl
+  by_first None = refl
+  by_first (Some (Instr.Op k rd rs1 rs2, size)) = went size _
+  by_first (Some (Instr.OpImm k rd rs1 imm, size)) = went size _
+  by_first (Some (Instr.Zbb k rd rs1 rs2, size)) = went size _
+  by_first (Some (Instr.ZbbImm k rd rs1 imm, size)) = went size _
+  by_first (Some (Instr.Lui rd imm, size)) = went size _
+  by_first (Some (Instr.Auipc rd imm, size)) = went size _
+  by_first (Some (Instr.Jal rd imm, size)) = refl
+  by_first (Some (Instr.Jalr rd rs1 imm, size)) = refl
+  by_first (Some (Instr.Branch k rs1 rs2 imm, size)) = refl
+  by_first (Some (Instr.Nop, size)) = went size _
+  by_first (Some (Instr.FenceI, size)) = refl
+  by_first (Some (Instr.Helper, size)) = refl
+  by_first (Some (Instr.Uncovered, size)) = refl
 
-refused-at_first : (stop : Stop) (x : List ℕ) (r : Ran) → refused (at_first stop) x ≡ answer_of (at_first stop) x r
+refused-at_first : (stop : Stop) (h : Hart) (r : Ran) → numbers (Err (record { refusal = at_first stop; given = h })) ≡ answer_of (Some (at_first stop)) h.x r
 unfolding at_first answer_of number
-refused-at_first Stop.NotFetched x r = refl
-refused-at_first Stop.Limit x r = refl
-refused-at_first Stop.Ended x r = refl
-refused-at_first Stop.Helper x r = refl
-refused-at_first Stop.Uncovered x r = refl
+refused-at_first Stop.NotFetched h r = refl
+refused-at_first Stop.Limit h r = refl
+refused-at_first Stop.Ended h r = refl
+refused-at_first Stop.Helper h r = refl
+refused-at_first Stop.Uncovered h r = refl
 
 module _ (g : List ℕ) (h : Hart) (limit : ℕ) (e : Bool) (q : limit ≡ 0 → ⊥) (p : h.pc % 2 ≡ 0) where
   abbrev begun : Hart
@@ -82,7 +82,7 @@ module _ (g : List ℕ) (h : Hart) (limit : ℕ) (e : Bool) (q : limit ≡ 0 →
   by_run k = by_first begun _ (λ size h'. counted e k 1 (drop size g) h') (fetch e g)
 
   -- the answer by the run r, which register 0's entry passes through, and its outcome
-  by_outcome : {r : Ran} → r ≡ run e (clamped limit) 0 g h → (q' : Refusal) → first r.count r.stop ≡ q' → answer_of q' h.x (in_run r) ≡ answer g h limit e
+  by_outcome : {r : Ran} → r ≡ run e (clamped limit) 0 g h → (q' : Option Refusal) → first r.count r.stop ≡ q' → answer_of q' h.x (in_run r) ≡ answer g h limit e
   unfolding answer refusal_of
   by_outcome {r} s q' f =
       let k : clamped limit ≡ suc (clamped limit - 1) = omega arith in
@@ -90,10 +90,10 @@ module _ (g : List ℕ) (h : Hart) (limit : ℕ) (e : Bool) (q : limit ≡ 0 →
       let z : refusal_first (fetch e g) ≡ q' = by_run (clamped limit - 1) ∙ (rw (← k, ← b) f) in
       rw (ne_eqb limit 0 q, eq-eqb (h.pc % 2) 0 p, z, ← b)
 
-  pub answer-at_first : {r : Ran} → r ≡ run e (clamped limit) 0 g h → r.count ≡ 0 → refused (at_first r.stop) h.x ≡ answer g h limit e
+  pub answer-at_first : {r : Ran} → r ≡ run e (clamped limit) 0 g h → r.count ≡ 0 → numbers (Err (record { refusal = at_first r.stop; given = h })) ≡ answer g h limit e
   unfolding first
-  answer-at_first {r} s c = refused-at_first r.stop h.x (in_run r) ∙ by_outcome s (at_first r.stop) (rw (eq-eqb r.count 0 c))
+  answer-at_first {r} s c = refused-at_first r.stop h (in_run r) ∙ by_outcome s (Some (at_first r.stop)) (rw (eq-eqb r.count 0 c))
 
-  pub accepted : {r : Ran} → r ≡ run e (clamped limit) 0 g h → (r.count ≡ 0 → ⊥) → record { refusal = Refusal.Accepted; hart = start r.hart.x r.hart.pc; count = r.count } ≡ answer g h limit e
+  pub accepted : {r : Ran} → r ≡ run e (clamped limit) 0 g h → (r.count ≡ 0 → ⊥) → numbers (Ok (in_run r)) ≡ answer g h limit e
   unfolding first answer_of number
-  accepted {r} s c = by_outcome s Refusal.Accepted (rw (ne_eqb r.count 0 c))
+  accepted {r} s c = by_outcome s None (rw (ne_eqb r.count 0 c))

@@ -1,15 +1,15 @@
 -- A block's run by the ISA's definition, and the operation RV64 run of document 01. Definitions only.
-use Rattle.std.specs.Prelude.{Bool, cond, not, List, ℕ, zero, suc, ◌+◌, ◌%◌, min, ltb, eqb, length, drop, set}
+use Rattle.std.specs.Prelude.{Bool, cond, not, List, ℕ, zero, suc, ◌+◌, ◌%◌, min, ltb, eqb, length, drop, set, Option, Some, None, Result, Ok, Err}
 use Rattle.rules.specs.Limits.{max_instrs}
 use Rattle.rules.specs.Refusals as Refusals
 use Rattle.le.specs.Le.{load}
 use Rattle.rv64.specs.declared.execute.Flow.{Flow}
 use Rattle.rv64_run.specs.declared.run.Hart.{Hart}
-use Rattle.rv64_run.specs.declared.run.Fetched.{Fetched}
 use Rattle.rv64_run.specs.declared.run.Stop.{Stop}
 use Rattle.rv64_run.specs.declared.run.Ran.{Ran}
-use Rattle.rv64_run.specs.declared.run.Refusal.{Refusal}
-use Rattle.rv64_run.specs.declared.run.Answer.{Answer}
+use Rattle.rules.specs.declared.refusals.Refusal.{Refusal}
+use Rattle.rules.specs.declared.refusals.Refused.{Refused}
+use Rattle.rv64.specs.declared.decode.Instr.{Instr}
 use Rattle.rv64.specs.Decode.{decode32}
 use Rattle.rvc.specs.Compressed.{decode16}
 use Rattle.rv64.specs.Execute as X
@@ -23,12 +23,16 @@ halfword bs = load 2 bs 0
 abbrev pub word : List ℕ → ℕ
 word bs = load 4 bs 0
 
+-- the instruction and its length in bytes; none where fewer bytes are left than it has
+abbrev pub Fetched : Type 0
+Fetched = Option (Instr × ℕ)
+
 -- low two bits 11: 32 bits, else 16. A lone last byte is no halfword. e: C.EBREAK does nothing
 unfoldable pub fetch : Bool → List ℕ → Fetched
 fetch e bs =
-    cond (ltb (length bs) 2) Fetched.Missing
-    (cond (not (eqb (halfword bs % 4) 3)) (Fetched.Found (decode16 e (halfword bs)) 2)
-    (cond (ltb (length bs) 4) Fetched.Missing (Fetched.Found (decode32 (word bs)) 4)))
+    cond (ltb (length bs) 2) None
+    (cond (not (eqb (halfword bs % 4) 3)) (Some (decode16 e (halfword bs), 2))
+    (cond (ltb (length bs) 4) None (Some (decode32 (word bs), 4))))
 
 -- ---- the run
 
@@ -51,8 +55,8 @@ onward Flow.Helper x pc n go = stopped (hart x pc) n Stop.Helper
 onward Flow.Uncovered x pc n go = stopped (hart x pc) n Stop.Uncovered
 
 unfoldable pub step : Fetched → Hart → ℕ → (ℕ → Hart → Ran) → Ran
-step Fetched.Missing h n go = stopped h n Stop.NotFetched
-step (Fetched.Found i size) h n go =
+step None h n go = stopped h n Stop.NotFetched
+step (Some (i, size)) h n go =
     onward (X.exec i size h.pc h.x).flow (X.exec i size h.pc h.x).x h.pc n (go size)
 
 -- at most k instructions after n others, one after another, from the bytes at the hart's PC on: inside a block the PC
@@ -66,26 +70,34 @@ run e (suc k) n bs h = step (fetch e bs) h n (λ (size : ℕ). run e k (n + 1) (
 abbrev pub clamped : ℕ → ℕ
 clamped limit = min limit max_instrs
 
--- document 01's numbers
-unfoldable pub number : Refusal → ℕ
-number Refusal.Accepted = Refusals.accepted
-number Refusal.LimitZero = Refusals.limit_zero
-number Refusal.OddPc = Refusals.odd_pc
-number Refusal.NotFetched = Refusals.not_fetched
-number Refusal.NotCovered = Refusals.not_covered
+-- document 01's numbers; none: 0
+unfoldable pub number : Option Refusal → ℕ
+number None = Refusals.accepted
+number (Some q) = Refusals.number q
 
-unfoldable pub refusal_first : Fetched → Refusal
-refusal_first Fetched.Missing = Refusal.NotFetched
-refusal_first (Fetched.Found i size) = cond (X.covered i) Refusal.Accepted Refusal.NotCovered
+unfoldable pub refusal_first : Fetched → Option Refusal
+refusal_first None = Some Refusal.NotFetched
+refusal_first (Some (i, size)) = cond (X.covered i) None (Some Refusal.NotCovered)
 
 -- the lowest that applies
-unfoldable pub refusal_of : List ℕ → ℕ → ℕ → Bool → Refusal
+unfoldable pub refusal_of : List ℕ → ℕ → ℕ → Bool → Option Refusal
 refusal_of guest pc limit e =
-    cond (eqb limit 0) Refusal.LimitZero
-    (cond (not (eqb (pc % 2) 0)) Refusal.OddPc (refusal_first (fetch e guest)))
+    cond (eqb limit 0) (Some Refusal.LimitZero)
+    (cond (not (eqb (pc % 2) 0)) (Some Refusal.OddPc) (refusal_first (fetch e guest)))
+
+-- the refusal, or none; the hart after the run, and how many instructions it did
+pub record Answer : Type 0 where
+  pub refusal : Option Refusal
+  pub hart : Hart
+  pub count : ℕ
+
+-- the answer of the code: where refused, the registers that it gives back, and every other number 0
+abbrev pub numbers : Result Ran (Refused Hart) → Answer
+numbers (Ok r) = record { refusal = None; hart = r.hart; count = r.count }
+numbers (Err e) = record { refusal = Some e.refusal; hart = hart e.given.x 0; count = 0 }
 
 -- where refused, the registers as they were, and every other number 0
-unfoldable pub answer_of : Refusal → List ℕ → Ran → Answer
+unfoldable pub answer_of : Option Refusal → List ℕ → Ran → Answer
 answer_of q x r =
     cond (eqb (number q) 0) (record { refusal = q; hart = r.hart; count = r.count })
     (record { refusal = q; hart = hart x 0; count = 0 })

@@ -9,7 +9,7 @@ ghost use Rattle.rv64.specs.Execute as X;
 ghost use Rattle.rv64.specs.Parts as S;
 
 use rv64::alu::sextw;
-use rv64::execute::{Computed, Effect, Flow, apply, ended, put, read};
+use rv64::execute::{Effect, Flow, apply, ended, put, read};
 
 // e, unless the encoding is reserved.
 fn unless(reserved: bool, e: Effect) -> Effect
@@ -24,7 +24,7 @@ fn quadrant0(x: &[u64; 32], w: u16, pc: u64) -> Effect
     match w / 8192 % 8 {
         0b000 => {
             let imm = isa::decode::imm_ciw(w);
-            let v = std::num::wrapping_add_u64(read(x, 2), imm);
+            let v = read(x, 2).wrapping_add(imm);
             unless(imm == 0, Effect::Set((w / 4 % 8 + 8) as u32, v))
         }
         0b010 => Effect::Helper,
@@ -36,17 +36,18 @@ fn quadrant0(x: &[u64; 32], w: u16, pc: u64) -> Effect
 }
 
 // C.SUB and the others of its group, by bits 12, 6 and 5.
-fn arith(w: u16, x: u64, y: u64) -> Computed
-    ensures { result ≡ S.computed C.ariths (F.inst 12 12 w * 4 + F.inst 6 5 w) x y Computed.Reserved }
+#[tactic(auto, using(rv64::proofs::Tables::missed), unfolding(rv64::specs::Alu::value, crate::specs::Compressed::ariths))]
+fn arith(w: u16, x: u64, y: u64) -> Option<u64>
+    ensures { result ≡ S.computed C.ariths (F.inst 12 12 w * 4 + F.inst 6 5 w) x y None }
 {
     match w / 4096 % 2 * 4 + w / 32 % 4 {
-        0b0_00 => Computed::Value(word::sub(x, y)),
-        0b0_01 => Computed::Value(x ^ y),
-        0b0_10 => Computed::Value(x | y),
-        0b0_11 => Computed::Value(x & y),
-        0b1_00 => Computed::Value(sextw(word::sub(x, y))),
-        0b1_01 => Computed::Value(sextw(std::num::wrapping_add_u64(x, y))),
-        _ => Computed::Reserved,
+        0b0_00 => Some(x.wrapping_sub(y)),
+        0b0_01 => Some(x ^ y),
+        0b0_10 => Some(x | y),
+        0b0_11 => Some(x & y),
+        0b1_00 => Some(sextw(x.wrapping_sub(y))),
+        0b1_01 => Some(sextw(x.wrapping_add(y))),
+        _ => None,
     }
 }
 
@@ -73,7 +74,7 @@ fn lui_addi16sp(x: &[u64; 32], w: u16, pc: u64) -> Effect
     let d = (w / 128 % 32) as u32;
     if d == 2 {
         let imm = isa::decode::imm_ci16(w);
-        let v = std::num::wrapping_add_u64(read(x, 2), imm);
+        let v = read(x, 2).wrapping_add(imm);
         return unless(imm == 0, Effect::Set(2, v));
     }
     let imm = isa::decode::imm_ci(w);
@@ -91,8 +92,8 @@ fn is_zero(x: &[u64; 32], w: u16) -> bool
 fn branch(taken: bool, w: u16, pc: u64) -> Effect
     ensures { result ≡ S.ended taken (W.add pc (F.cb_imm w)) (W.add pc 2) }
 {
-    let to = std::num::wrapping_add_u64(pc, isa::decode::imm_cb(w));
-    ended(taken, to, std::num::wrapping_add_u64(pc, 2))
+    let to = pc.wrapping_add(isa::decode::imm_cb(w));
+    ended(taken, to, pc.wrapping_add(2))
 }
 
 fn quadrant1(x: &[u64; 32], w: u16, pc: u64) -> Effect
@@ -102,15 +103,12 @@ fn quadrant1(x: &[u64; 32], w: u16, pc: u64) -> Effect
     let a = read(x, d);
     let imm = isa::decode::imm_ci(w);
     match w / 8192 % 8 {
-        0b000 => Effect::Set(d, std::num::wrapping_add_u64(a, imm)),
-        0b001 => unless(
-            d == 0,
-            Effect::Set(d, sextw(std::num::wrapping_add_u64(a, imm))),
-        ),
-        0b010 => Effect::Set(d, std::num::wrapping_add_u64(0, imm)),
+        0b000 => Effect::Set(d, a.wrapping_add(imm)),
+        0b001 => unless(d == 0, Effect::Set(d, sextw(a.wrapping_add(imm)))),
+        0b010 => Effect::Set(d, imm),
         0b011 => lui_addi16sp(x, w, pc),
         0b100 => misc_alu(x, w, pc),
-        0b101 => Effect::Ended(std::num::wrapping_add_u64(pc, isa::decode::imm_cj(w))),
+        0b101 => Effect::Ended(pc.wrapping_add(isa::decode::imm_cj(w))),
         0b110 => branch(is_zero(x, w), w, pc),
         0b111 => branch(!is_zero(x, w), w, pc),
         _ => Effect::Uncovered,
@@ -124,10 +122,10 @@ fn jr_mv(x: &[u64; 32], w: u16, pc: u64) -> Effect
     let d = (w / 128 % 32) as u32;
     let s = (w / 4 % 32) as u32;
     if s == 0 {
-        let to = std::num::wrapping_add_u64(read(x, d), 0);
+        let to = read(x, d);
         return unless(d == 0, Effect::Ended(to / 2 * 2));
     }
-    let v = std::num::wrapping_add_u64(0, read(x, s));
+    let v = read(x, s);
     unless(d == 0, Effect::Set(d, v))
 }
 
@@ -139,11 +137,11 @@ fn ebreak_jalr_add(x: &[u64; 32], w: u16, ignore_ebreak: bool, pc: u64) -> Effec
     let s = (w / 4 % 32) as u32;
     let a = read(x, d);
     if s != 0 {
-        let v = std::num::wrapping_add_u64(a, read(x, s));
+        let v = a.wrapping_add(read(x, s));
         return unless(d == 0, Effect::Set(d, v));
     }
     if d != 0 {
-        let to = std::num::wrapping_add_u64(a, 0);
+        let to = a;
         return Effect::Link(1, to / 2 * 2);
     }
     if ignore_ebreak {
@@ -198,5 +196,5 @@ pub fn step16(x: &mut [u64; 32], w: u16, ignore_ebreak: bool, pc: u64) -> Flow
     ensures { S.Does (X.exec (C.decode16 ignore_ebreak w) 2 pc x.old) result x.new }
 {
     let e = effect16(x, w, ignore_ebreak, pc);
-    apply(x, e, std::num::wrapping_add_u64(pc, 2))
+    apply(x, e, pc.wrapping_add(2))
 }

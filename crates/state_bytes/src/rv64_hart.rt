@@ -1,23 +1,20 @@
 // The guest registers as bytes, eight each.
-ghost use Rattle.std.specs.Prelude.{◌≡◌, length};
+ghost use Rattle.std.specs.Prelude.{◌≡◌};
 ghost use Rattle.le.specs.Le.{all_bytes};
 ghost use Rattle.state_bytes.specs.States as States;
 
 use rv64_run::run::Hart;
 
-pub fn from_bytes(b: &[u8], pc: u64) -> Hart
-    requires { length b.now ≡ 256 }
+pub fn from_bytes(b: &[u8; 256], pc: u64) -> Hart
     ensures { result ≡ States.rv64_hart b.now pc }
 {
     let mut x = [0u64; 32];
     le::read64(b, &mut x);
-    Hart { x: x, pc: pc }
+    Hart { x, pc }
 }
 
-pub fn to_bytes(h: Hart, b: &mut [u8])
-    requires { length b.old ≡ 256 }
+pub fn to_bytes(h: Hart, b: &mut [u8; 256])
     ensures { b.new ≡ all_bytes 8 h.x }
 {
-    let x = h.x;
-    le::write64(&x, b);
+    le::write64(&h.x, b);
 }

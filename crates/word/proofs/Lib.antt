@@ -10,3 +10,4 @@ pub mod Zeros
 pub mod Orc
 pub mod Rotations
 pub mod Xnor
+pub mod Casts

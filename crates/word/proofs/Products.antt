@@ -18,10 +18,6 @@ pub whole : (a b : ℕ) → a * b
 whole a b =
     rw (← expand (2 ^ 32) (a % 2 ^ 32) (a / 2 ^ 32) (b % 2 ^ 32) (b / 2 ^ 32), div-add-mod' a (2 ^ 32), div-add-mod' b (2 ^ 32))
 
-pub low_of : (t x y z : ℕ)
-    → (z + (x % 2 ^ 32 + y % 2 ^ 32) % 2 ^ 32 * 2 ^ 32) % 2 ^ 64 ≡ (t * 2 ^ 64 + x * 2 ^ 32 + y * 2 ^ 32 + z) % 2 ^ 64
-low_of t x y z = omega arith
-
 pub high_of : (t x y z : ℕ) → t + (x + z / 2 ^ 32) / 2 ^ 32 + ((x + z / 2 ^ 32) % 2 ^ 32 + y) / 2 ^ 32
     ≡ (t * 2 ^ 64 + x * 2 ^ 32 + y * 2 ^ 32 + z) / 2 ^ 64
 high_of t x y z = omega arith

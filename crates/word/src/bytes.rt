@@ -6,17 +6,7 @@ ghost use Rattle.word.specs.Bytes as B;
 pub fn reversed(x: u64) -> u64
     ensures { result ≡ B.reversed 8 x }
 {
-    let b = x / 256;
-    let c = b / 256;
-    let d = c / 256;
-    let e = d / 256;
-    let f = e / 256;
-    let g = f / 256;
-    let h = g / 256;
-    let low = f % 256 * 0x1_0000 + (g % 256 * 256 + h % 256);
-    let high = x % 256 * 0x1_0000_0000
-        + (b % 256 * 0x100_0000 + (c % 256 * 0x1_0000 + (d % 256 * 256 + e % 256)));
-    high * 0x100_0000 + low
+    x.swap_bytes()
 }
 
 // Each byte all ones where it is not 0.
@@ -33,10 +23,7 @@ pub fn ror(x: u64, s: u32) -> u64
     requires { s < 64 }
     ensures { result ≡ B.ror x s }
 {
-    if s == 0 {
-        return x;
-    }
-    (x >> s) | (x << (64 - s))
+    x.rotate_right(s)
 }
 
 // A rotation to the left by s places.
@@ -44,5 +31,5 @@ pub fn rol(x: u64, s: u32) -> u64
     requires { s < 64 }
     ensures { result ≡ B.rol x s }
 {
-    ror(x, (64 - s) % 64)
+    x.rotate_left(s)
 }

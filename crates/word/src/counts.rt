@@ -6,38 +6,39 @@ ghost use Rattle.word.specs.Counts as C;
 pub fn clz(x: u64) -> u64
     ensures { result ≡ C.clz 64 x }
 {
-    u64::leading_zeros(x) as u64
+    u64::from(x.leading_zeros())
 }
 
 // The zeros below the lowest bit that is set.
 pub fn ctz(x: u64) -> u64
     ensures { result ≡ C.ctz 64 x }
 {
-    u64::trailing_zeros(x) as u64
+    u64::from(x.trailing_zeros())
 }
 
 // The bits that are set.
 pub fn cpop(x: u64) -> u64
     ensures { result ≡ C.cpop 64 x }
 {
-    u64::count_ones(x) as u64
+    u64::from(x.count_ones())
 }
 
 // The same of the low word.
+// Kept: no plainer: a function for each width is one line, and one over both widths needs a trait of its own.
 pub fn clzw(x: u64) -> u64
     ensures { result ≡ C.clz 32 x }
 {
-    u32::leading_zeros((x % 0x1_0000_0000) as u32) as u64
+    u64::from(((x % 0x1_0000_0000) as u32).leading_zeros())
 }
 
 pub fn ctzw(x: u64) -> u64
     ensures { result ≡ C.ctz 32 x }
 {
-    u32::trailing_zeros((x % 0x1_0000_0000) as u32) as u64
+    u64::from(((x % 0x1_0000_0000) as u32).trailing_zeros())
 }
 
 pub fn cpopw(x: u64) -> u64
     ensures { result ≡ C.cpop 32 x }
 {
-    u32::count_ones((x % 0x1_0000_0000) as u32) as u64
+    u64::from(((x % 0x1_0000_0000) as u32).count_ones())
 }

@@ -1,4 +1,4 @@
-// Arithmetic of 64-bit registers that the language lacks. Each function equals the definition of its name.
+// Arithmetic of 64-bit registers, by the language's own numbers. Each function equals the definition of its name.
 #![tactic(auto)]
 
 ghost use Rattle.std.specs.Prelude.{◌≡◌, ◌*◌, ◌^◌, ◌<◌, ◌≤◌};
@@ -11,11 +11,7 @@ pub mod counts;
 pub fn sub(x: u64, y: u64) -> u64
     ensures { result ≡ W.sub x y }
 {
-    if y <= x {
-        x - y
-    } else {
-        0xFFFF_FFFF_FFFF_FFFF - y + 1 + x
-    }
+    x.wrapping_sub(y)
 }
 
 // The product of two numbers of 32 bits.
@@ -30,12 +26,7 @@ fn product32(x: u64, y: u64) -> u64
 pub fn mul(x: u64, y: u64) -> u64
     ensures { result ≡ W.mul x y }
 {
-    let x0 = x % 0x1_0000_0000;
-    let x1 = x / 0x1_0000_0000;
-    let y0 = y % 0x1_0000_0000;
-    let y1 = y / 0x1_0000_0000;
-    let middle = product32(x1, y0) % 0x1_0000_0000 + product32(x0, y1) % 0x1_0000_0000;
-    std::num::wrapping_add_u64(product32(x0, y0), middle % 0x1_0000_0000 * 0x1_0000_0000)
+    x.wrapping_mul(y)
 }
 
 // Bits 127 to 64 of the unsigned product.
@@ -59,7 +50,7 @@ pub fn mulhsu(x: u64, y: u64) -> u64
     if x < 0x8000_0000_0000_0000 {
         h
     } else {
-        sub(h, y)
+        h.wrapping_sub(y)
     }
 }
 
@@ -71,7 +62,7 @@ pub fn mulh(x: u64, y: u64) -> u64
     if y < 0x8000_0000_0000_0000 {
         h
     } else {
-        sub(h, x)
+        h.wrapping_sub(x)
     }
 }
 
@@ -79,8 +70,7 @@ pub fn mulh(x: u64, y: u64) -> u64
 pub fn slt(x: u64, y: u64) -> bool
     ensures { result ≡ W.slt x y }
 {
-    std::num::wrapping_add_u64(x, 0x8000_0000_0000_0000)
-        < std::num::wrapping_add_u64(y, 0x8000_0000_0000_0000)
+    x.cast_signed() < y.cast_signed()
 }
 
 // x shifted right by s places with copies of its sign bit.
@@ -88,11 +78,7 @@ pub fn asr(x: u64, s: u32) -> u64
     requires { s < 64 }
     ensures { result ≡ W.asr x s }
 {
-    if x < 0x8000_0000_0000_0000 {
-        x >> s
-    } else {
-        0xFFFF_FFFF_FFFF_FFFF - ((0xFFFF_FFFF_FFFF_FFFF - x) >> s)
-    }
+    (x.cast_signed() >> s).cast_unsigned()
 }
 
 // The low k bits of x, extended by their sign.
@@ -104,45 +90,24 @@ pub fn sext(x: u64, k: u32) -> u64
     asr(x << s, s)
 }
 
-fn magnitude(x: u64) -> u64
-    ensures { result ≡ W.magnitude x }
-{
-    if x < 0x8000_0000_0000_0000 {
-        x
-    } else {
-        0xFFFF_FFFF_FFFF_FFFF - x + 1
-    }
-}
-
-fn signed(s: bool, m: u64) -> u64
-    ensures { result ≡ W.signed s m }
-{
-    if s { sub(0, m) } else { m }
-}
-
 // The signed quotient, rounded toward zero; 0 for the divisor 0.
 pub fn sdiv(x: u64, y: u64) -> u64
     ensures { result ≡ W.sdiv x y }
 {
-    let d = magnitude(y);
-    if d == 0 {
+    if y == 0 {
         return 0;
     }
-    let q = magnitude(x) / d;
-    signed(
-        (0x8000_0000_0000_0000 <= x) != (0x8000_0000_0000_0000 <= y),
-        q,
-    )
+    let quotient = x.cast_signed().wrapping_div(y.cast_signed());
+    quotient.cast_unsigned()
 }
 
 // The remainder of the signed division, with the dividend's sign; x for the divisor 0.
 pub fn srem(x: u64, y: u64) -> u64
     ensures { result ≡ W.srem x y }
 {
-    let d = magnitude(y);
-    if d == 0 {
+    if y == 0 {
         return x;
     }
-    let m = magnitude(x) % d;
-    signed(0x8000_0000_0000_0000 <= x, m)
+    let remainder = x.cast_signed().wrapping_rem(y.cast_signed());
+    remainder.cast_unsigned()
 }

@@ -9,8 +9,8 @@ use Rattle.rvc.proofs.jr_mv.Goals as goal
 
 pub returns-then-s-eq0 : goal.returns-then-s-eq0
 unfolding C.jr_mv S.applied X.exec N.value
-returns-then-s-eq0 c = rw (c.unless.ensures, c.wrapping_add_u64-to.ensures.value, c.read.ensures, eq-eqb _ _ c.if-s-eq0.true) (Steps.unless c.args.w c.args.pc c.args.x.now _ _ _ (omega arith, rw write-zero))
+returns-then-s-eq0 c = rw (c.unless.ensures, eq-eqb _ _ c.if-s-eq0.true) (Steps.unless c.args.w c.args.pc c.args.x.now _ _ _ (omega arith, rw (write-zero, ← c.read-to.ensures, Steps.plus_0 _ c.read-to.type_inv)))
 
 pub returns : goal.returns
 unfolding C.jr_mv S.applied X.exec N.value
-returns c = rw (c.unless-2.ensures, c.wrapping_add_u64-v.ensures.value, c.read-2.ensures, ne_eqb _ _ c.if-s-eq0.false) (Steps.unless c.args.w c.args.pc c.args.x.now _ _ _ (omega arith, rw read-zero))
+returns c = rw (c.unless-2.ensures, ne_eqb _ _ c.if-s-eq0.false) (Steps.unless c.args.w c.args.pc c.args.x.now _ _ _ (omega arith, rw (read-zero, ← c.read-v.ensures, Steps.plus-0 _ c.read-v.type_inv)))

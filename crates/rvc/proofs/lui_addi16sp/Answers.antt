@@ -8,7 +8,7 @@ use Rattle.rvc.proofs.lui_addi16sp.Goals as goal
 
 pub returns-then-d-eq2 : goal.returns-then-d-eq2
 unfolding C.lui_addi16sp S.applied X.exec N.value
-returns-then-d-eq2 c = rw (c.unless.ensures, c.wrapping_add_u64-v.ensures.value, c.read.ensures, c.imm_ci16-imm.ensures, eq-eqb _ _ c.if-d-eq2.true) (Steps.unless c.args.w c.args.pc c.args.x.now _ _ _ (omega arith, refl))
+returns-then-d-eq2 c = rw (c.unless.ensures, c.read.ensures, c.imm_ci16-imm.ensures, eq-eqb _ _ c.if-d-eq2.true) (Steps.unless c.args.w c.args.pc c.args.x.now _ _ _ (omega arith, refl))
 
 pub returns : goal.returns
 unfolding C.lui_addi16sp S.applied X.exec N.value

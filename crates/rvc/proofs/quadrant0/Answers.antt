@@ -10,7 +10,7 @@ use Rattle.rvc.proofs.quadrant0.Goals as goal
 
 pub returns-in-0 : goal.returns-in-0
 unfolding C.quadrant0 C.table0 S.applied X.exec N.value
-returns-in-0 c = rw (c.unless.ensures, c.wrapping_add_u64-v.ensures.value, c.read.ensures, c.imm_ciw-imm.ensures, c.in-0.is) (Steps.unless c.args.w c.args.pc c.args.x.now _ _ _ (omega arith, refl))
+returns-in-0 c = rw (c.unless.ensures, c.read.ensures, c.imm_ciw-imm.ensures, c.in-0.is) (Steps.unless c.args.w c.args.pc c.args.x.now _ _ _ (omega arith, refl))
 
 pub returns-in-2 : goal.returns-in-2
 unfolding C.quadrant0 C.table0 S.applied X.exec N.value

@@ -1,4 +1,5 @@
 use Rattle.std.proofs.Common.{refl, arith}
+use Rattle.rv64.proofs.Steps.{read-zero}
 use Rattle.rvc.proofs.Steps as Steps
 use Rattle.rv64.specs.Alu as N
 use Rattle.rv64.specs.Parts as S
@@ -8,15 +9,15 @@ use Rattle.rvc.proofs.quadrant1.Goals as goal
 
 pub returns-in-0 : goal.returns-in-0
 unfolding C.quadrant1 C.table1 S.applied X.exec X.read X.write N.value N.taken
-returns-in-0 c = (omega arith, rw (c.wrapping_add_u64.ensures.value, c.in-0.is, c.imm_ci-imm.ensures, c.read-a.ensures))
+returns-in-0 c = (omega arith, rw (c.in-0.is, c.imm_ci-imm.ensures, c.read-a.ensures))
 
 pub returns-in-1 : goal.returns-in-1
 unfolding C.quadrant1 C.table1 S.applied X.exec N.value
-returns-in-1 c = rw (c.unless.ensures, c.sextw.ensures, c.wrapping_add_u64-in-1.ensures.value, c.in-1.is, c.imm_ci-imm.ensures, c.read-a.ensures) (Steps.unless c.args.w c.args.pc c.args.x.now _ _ _ (omega arith, refl))
+returns-in-1 c = rw (c.unless.ensures, c.sextw.ensures, c.in-1.is, c.imm_ci-imm.ensures, c.read-a.ensures) (Steps.unless c.args.w c.args.pc c.args.x.now _ _ _ (omega arith, refl))
 
 pub returns-in-2 : goal.returns-in-2
-unfolding C.quadrant1 C.table1 S.applied X.exec X.read X.write N.value N.taken
-returns-in-2 c = (omega arith, rw (c.wrapping_add_u64-in-2.ensures.value, c.in-2.is, c.imm_ci-imm.ensures))
+unfolding C.quadrant1 C.table1 S.applied X.exec N.value
+returns-in-2 c = (omega arith, rw (c.in-2.is, read-zero, ← c.imm_ci-imm.ensures, Steps.plus-0 _ c.imm_ci-imm.type_inv))
 
 pub returns-in-3 : goal.returns-in-3
 unfolding C.quadrant1 C.table1
@@ -28,7 +29,7 @@ returns-in-4 c = rw c.in-4.is c.misc_alu.ensures
 
 pub returns-in-5 : goal.returns-in-5
 unfolding C.quadrant1 C.table1 S.applied X.exec X.read X.write N.value N.taken
-returns-in-5 c = (omega arith, rw (c.wrapping_add_u64-in-5.ensures.value, c.imm_cj.ensures, c.in-5.is))
+returns-in-5 c = (omega arith, rw (c.imm_cj.ensures, c.in-5.is))
 
 pub returns-in-6 : goal.returns-in-6
 unfolding C.quadrant1 C.table1 S.applied X.exec X.read X.write N.value N.taken

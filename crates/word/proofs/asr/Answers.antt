@@ -1,12 +1,10 @@
-use Rattle.std.proofs.Common.{le-leb}
-use borrow.Author.Tests.{lt-leb}
-use Rattle.word.specs.Word.{asr}
+use Rattle.std.proofs.Common.{◌∙◌}
+use mir.Syntax.{w64}
+use Rattle.std.proofs.lemmas.Int.{of_z-to_z}
+use Rattle.word.proofs.Casts.{asr-cast}
 use Rattle.word.proofs.asr.Goals as goal
 
-pub returns-then-x-lt9223372036854775808 : goal.returns-then-x-lt9223372036854775808
-unfolding asr
-returns-then-x-lt9223372036854775808 c = rw (lt-leb _ _ c.if-x-lt9223372036854775808.true)
-
-pub returns-else-x-lt9223372036854775808 : goal.returns-else-x-lt9223372036854775808
-unfolding asr
-returns-else-x-lt9223372036854775808 c = rw (le-leb _ _ c.if-x-lt9223372036854775808.false)
+pub returns : goal.returns
+returns c = let a = c.args in
+    let h = c.ranges.x.fits in
+    c.cast_unsigned.ensures ∙ rw (c.cast_signed.ensures, of_z-to_z w64 a.x h) (asr-cast a.x a.s h)

@@ -8,4 +8,4 @@ returns-then-y-lt9223372036854775808 c = let a = c.args in
 
 pub returns-else-y-lt9223372036854775808 : goal.returns-else-y-lt9223372036854775808
 returns-else-y-lt9223372036854775808 c = let a = c.args in
-    c.sub.ensures ∙ rw c.mulhsu-h.ensures (sym (mulh_negative a.x a.y (search rules) (search rules) c.if-y-lt9223372036854775808.false))
+    rw c.mulhsu-h.ensures (sym (mulh_negative a.x a.y (search rules) (search rules) c.if-y-lt9223372036854775808.false))

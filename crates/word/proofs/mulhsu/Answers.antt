@@ -8,4 +8,4 @@ returns-then-x-lt9223372036854775808 c = let a = c.args in
 
 pub returns-else-x-lt9223372036854775808 : goal.returns-else-x-lt9223372036854775808
 returns-else-x-lt9223372036854775808 c = let a = c.args in
-    c.sub.ensures ∙ rw c.mulhu-h.ensures (sym (mulhsu_negative a.x a.y (search rules) (search rules) c.if-x-lt9223372036854775808.false))
+    rw c.mulhu-h.ensures (sym (mulhsu_negative a.x a.y (search rules) (search rules) c.if-x-lt9223372036854775808.false))

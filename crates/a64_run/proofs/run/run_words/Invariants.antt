@@ -1,12 +1,13 @@
-use Rattle.std.proofs.Common.{◌-◌, length}
-use Rattle.a64_exec.specs.Exec.{machine}
+use Rattle.std.proofs.Common.{◌≡◌, length}
+use Rattle.a64_exec.specs.Parts.{held}
 use Rattle.a64_run.specs.Run.{from}
 use Rattle.a64_run.proofs.RunLaws.{Running}
 use Rattle.a64_run.proofs.run.run_words.Given as goal
 
--- what is left of the run ends as the whole does
+-- what is left of the run ends as the whole does, in the memory and registers that were lent
 abbrev pub invariant-loop-i : goal.invariant-loop-i
-invariant-loop-i l = Running (from l.block l.address l.first l.budget (machine l.initial.x l.initial.sp l.initial.flags l.base l.initial.memory)) l.block l.address l.budget l.base l.count (length l.initial.memory) l.x l.sp l.flags l.memory l.i l.k
-
-abbrev pub decreases-loop-i : goal.decreases-loop-i
-decreases-loop-i l = l.count - l.i
+invariant-loop-i l = record {
+  running : Running (from l.block l.address l.first l.budget (held l.initial.machine)) l.block l.address l.first l.budget l.count (length l.initial.machine.memory.now) (held l.machine) l.i;
+  x_lent : l.machine.x.ghost_name ≡ l.initial.machine.x.ghost_name;
+  memory_lent : l.machine.memory.ghost_name ≡ l.initial.machine.memory.ghost_name;
+}

@@ -28,19 +28,19 @@ returns-in-55 c = (omega arith, rw (c.imm_u.ensures, c.in-55.is))
 
 pub returns-in-23 : goal.returns-in-23
 unfolding D.base32 D.by_class class_of S.applied X.exec
-returns-in-23 c = (omega arith, rw (c.wrapping_add_u64.ensures.value, c.imm_u-in-23.ensures, c.in-23.is))
+returns-in-23 c = (omega arith, rw (c.imm_u-in-23.ensures, c.in-23.is))
 
 pub returns-in-111 : goal.returns-in-111
 unfolding D.base32 D.by_class class_of S.applied X.exec
-returns-in-111 c = (omega arith, rw (c.wrapping_add_u64-in-111.ensures.value, c.imm_j.ensures, c.in-111.is))
+returns-in-111 c = (omega arith, rw (c.imm_j.ensures, c.in-111.is))
 
 pub returns-in-103 : goal.returns-in-103
 unfolding D.base32 D.by_class class_of S.applied X.exec
-returns-in-103 c = (omega arith, rw (c.wrapping_add_u64-in-103.ensures.value, c.imm_i.ensures, c.in-103.is, c.read-a.ensures))
+returns-in-103 c = (omega arith, rw (c.imm_i.ensures, c.in-103.is, c.read-a.ensures))
 
 pub returns-in-99 : goal.returns-in-99
 unfolding D.base32 D.by_class class_of
-returns-in-99 c = rw (c.branch-w.ensures, c.wrapping_add_u64-to.ensures.value, c.imm_b.ensures, c.in-99.is, c.read-b.ensures, c.read-a.ensures, c.requires) (Steps.branch c.args.w c.args.pc c.args.x.now)
+returns-in-99 c = rw (c.branch-w.ensures, c.imm_b.ensures, c.in-99.is, c.read-b.ensures, c.read-a.ensures, c.requires) (Steps.branch c.args.w c.args.pc c.args.x.now)
 
 pub returns-in_default : goal.returns-in_default
 unfolding D.base32 D.by_class class_of S.applied X.exec

@@ -6,4 +6,4 @@ pub apply-requires : goal.apply-requires
 apply-requires c = rw c.or_zbb-e.ensures (base-first c.args.w c.args.pc c.args.x.now c.ranges.w.fits c.effect32-e.result c.effect32-e.ensures).0
 
 pub returns : goal.returns
-returns c = rw (c.apply.ensures.0, c.apply.ensures.1, c.or_zbb-e.ensures, c.wrapping_add_u64-next.ensures.value) (Steps.parts (base-first c.args.w c.args.pc c.args.x.now c.ranges.w.fits c.effect32-e.result c.effect32-e.ensures).1)
+returns c = rw (c.apply.ensures.0, c.apply.ensures.1, c.or_zbb-e.ensures) (Steps.parts (base-first c.args.w c.args.pc c.args.x.now c.ranges.w.fits c.effect32-e.result c.effect32-e.ensures).1)

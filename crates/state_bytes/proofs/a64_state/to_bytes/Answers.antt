@@ -22,5 +22,5 @@ pub returns : goal.returns
 returns c = let a = c.args in
     let l : length a.s.x ≡ 31 = search rules in
     rw
-    (c.store-2.ensures, c.nzcv_of.ensures, c.store.ensures, c.write64.ensures)
+    (c.store-2.ensures, c.from.ensures, c.store.ensures, c.write64.ensures)
     (two_more a.s.x a.b.now _ _ 248 (omega arith) (omega arith))

@@ -1,6 +1,6 @@
-use Rattle.std.proofs.Common.{refl}
-use Rattle.word.proofs.Rotations.{other_way}
+use Rattle.std.proofs.Common.{◌∙◌}
+use Rattle.word.proofs.Rotations.{left_by}
 use Rattle.word.proofs.bytes.rol.Goals as goal
 
 pub returns : goal.returns
-returns c = rw c.ror.ensures (other_way _ _ _ c.ranges.x.fits refl c.requires)
+returns c = c.rotate_left.ensures ∙ left_by c.args.x c.args.s c.ranges.x.fits c.requires
