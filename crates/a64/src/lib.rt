@@ -60,6 +60,7 @@ pub enum Form {
     // rn
     Blr(u32),
     Ret,
+    // Kept: no plainer as None: to the machine it is an instruction that ends the run, with a row like any form's.
     // any other word
     Unreadable,
 }

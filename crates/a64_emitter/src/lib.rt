@@ -23,6 +23,7 @@ pub type A64Emitter = BlockEmitter<MAX_WORDS>;
 pub type ShortEmitter = BlockEmitter<SHORT_WORDS>;
 
 // One word after the first `at`, or nothing where it does not fit; the new count.
+// Kept: a rule of the project, fixed memory: array and place are the two fields of an emitter, lent apart.
 pub fn emit_at(words: &mut [u32], at: usize, w: u32) -> usize
     ensures { Added words.old at words.new result (w ∷ []) }
 {

@@ -14,6 +14,7 @@ use ascii::Writer;
 pub const SP: u32 = 32;
 
 // What stands after the registers.
+// Kept: its None is a row of the same match; no plainer as an Option of six rows.
 #[derive(Drop)]
 pub enum Rest {
     None,

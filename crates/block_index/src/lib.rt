@@ -34,6 +34,7 @@ fn slot_of(m: &Index, space: u64, pc: u64) -> Option<Slot>
     ensures { MatchOption result (I.slot_of m.now space pc ≡ 0) (λ p. (p.number ≡ I.slot_of m.now space pc) × (p.number ≢ 0)) }
 {
     let mut p = block_log::cell(m, block_log::bucket(space, pc));
+    // Kept: a while, no plainer as a for: it goes down a chain.
     while p.number != 0 {
         if block_at(m, space, pc, p) {
             return Some(p);
@@ -66,6 +67,7 @@ pub fn refused(size: u64, n: u64) -> bool
 
 // Where the last block placed ends, 0 where there is none that ends at the bound or before. Nothing overflows: what
 // is left is compared.
+// Kept: 0 and no Option: 0 is the store's front, where the next block then goes.
 pub fn last_end(m: &Index, bound: u64) -> u64
     ensures { (result ≡ I.last_end m.now bound) × (result ≤ bound) }
 {

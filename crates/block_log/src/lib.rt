@@ -117,6 +117,7 @@ fn previous(m: &Index, head: Slot, p: Slot) -> Slot
     ensures { result.number ≡ L.previous m.now head.number p.number }
 {
     let mut q = head;
+    // Kept: a while, no plainer as a for: it goes down a chain.
     while q.number != 0 {
         let next = next_at(m, q);
         if next.number == p.number {

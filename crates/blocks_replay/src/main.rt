@@ -107,6 +107,7 @@ const MAGIC: u64 = 0x4b43_4f4c_4234_3641;
 
 // Replays a file's cases and says how many there were and how many differ, and whether the file goes on after them.
 // The seed after the header is not used.
+// Kept: no plainer by replay's: it prints the path before, and reads a seed after the header.
 fn replay_file(rt: &(impl Files + Print + Eprint + AllocGlobal), path: &str) -> io::Result<()> {
     let Some(bytes) = replay::open(rt, path)? else {
         return Ok(());

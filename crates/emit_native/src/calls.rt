@@ -34,6 +34,7 @@ impl<'a> InstrEmitter<'a> {
     }
 
     // One word more where the test holds, or unchanged where it does not or the word does not fit.
+    // Kept: a test as a parameter, by a named form of document 01; a branch around it would copy the emitter.
     #[tactic(auto, unfolding(crate::specs::Parts::held))]
     pub fn emit_if(mut self, test: bool, w: u32) -> Self
         ensures { held result ≡ after (held self.entry) (emit_if «test» w) }

@@ -8,6 +8,22 @@ use rules::INSTR_WORDS;
 
 mod calls;
 
+// The conditions of CSEL, by the names that hart.rs gives them.
+// Kept: numbers, by a rule of the project: `csel_x` takes the Rust's `cond: u8`.
+pub const C_EQ: u8 = 0x0;
+
+pub const C_NE: u8 = 0x1;
+
+pub const C_CS: u8 = 0x2;
+
+pub const C_CC: u8 = 0x3;
+
+pub const C_MI: u8 = 0x4;
+
+pub const C_GE: u8 = 0xA;
+
+pub const C_LT: u8 = 0xB;
+
 // The emitter of one instruction: an array that is lent, how many words it holds of it, and the slot offset.
 #[derive(Drop)]
 pub struct InstrEmitter<'a> {

@@ -6,15 +6,12 @@ ghost use Rattle.emit_native.specs.Parts.{held, answer, emitted};
 ghost use Rattle.instr16.specs.Instr16.{addi4spn, quadrant_0, c_addi, c_addiw, c_li, c_addi16sp, c_lui, c_alu, c_group, c_j, c_condition, c_branch, c_addi16sp_lui, quadrant_1, c_slli, c_jr, c_mv, c_jalr, c_add, c_jump_move_add, quadrant_2, emit_native_instr16};
 
 use a64_emitter::A64Emitter;
-use emit_native::{Emitted, InstrEmitter};
-
-const C_EQ: u8 = 0x0;
-
-const C_NE: u8 = 0x1;
+use emit_native::{C_EQ, C_NE, Emitted, InstrEmitter};
 
 // !1u64
 const NOT_1: u64 = 0xFFFF_FFFF_FFFF_FFFE;
 
+// Kept: a function for each field, no plainer with its place as a parameter: it is a line.
 fn rd_of(instr: u16) -> u8
     ensures { (result ≡ instr / 128 % 32) × (result < 32) }
 {

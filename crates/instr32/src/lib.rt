@@ -7,25 +7,13 @@ ghost use Rattle.isa.specs.Decode.{decode32};
 ghost use Rattle.instr32.specs.Instr32.{lui, auipc, jal, jalr, branch_on, branch, op_imm, op_imm_32, op_32, op, misc_mem, emit_native_instr};
 
 use a64_emitter::A64Emitter;
-use emit_native::{Emitted, InstrEmitter};
+use emit_native::{C_CC, C_CS, C_EQ, C_GE, C_LT, C_NE, Emitted, InstrEmitter};
 use isa::classes::Class;
 use isa::decode::Decoded32;
 
 mod op;
 mod op_32;
 mod op_imm;
-
-const C_EQ: u8 = 0x0;
-
-const C_NE: u8 = 0x1;
-
-const C_CS: u8 = 0x2;
-
-const C_CC: u8 = 0x3;
-
-const C_GE: u8 = 0xA;
-
-const C_LT: u8 = 0xB;
 
 #[tactic(auto, unfolding(crate::specs::Instr32::lui))]
 fn emit_lui(em: InstrEmitter<'_>, instr: u32, d: Decoded32) -> Emitted<'_>
@@ -125,6 +113,7 @@ fn emit_op_imm_32(em: InstrEmitter<'_>, instr: u32, d: Decoded32) -> Emitted<'_>
     )
 }
 
+// Kept: emit_op_32 and emit_op, by a rule of the project: the Rust's two arms, in its order.
 #[tactic(auto, unfolding(crate::specs::Instr32::op_32))]
 fn emit_op_32(em: InstrEmitter<'_>, d: Decoded32) -> Emitted<'_>
     requires { InRange d }

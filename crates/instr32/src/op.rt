@@ -6,15 +6,7 @@ ghost use Rattle.emit_native.specs.Sequences.{compared, zero_divisor, remainder,
 ghost use Rattle.instr32.specs.Instr32.{op_arm};
 
 use a64_emitter::A64Emitter;
-use emit_native::{Emitted, InstrEmitter};
-
-pub const C_EQ: u8 = 0x0;
-
-pub const C_CC: u8 = 0x3;
-
-const C_MI: u8 = 0x4;
-
-pub const C_LT: u8 = 0xB;
+use emit_native::{C_CC, C_EQ, C_LT, C_MI, Emitted, InstrEmitter};
 
 // X11 is 1 where the comparison of X9 and X10 meets the condition, and else 0.
 pub fn emit_compared(em: InstrEmitter<'_>, condition: u8) -> InstrEmitter<'_>

@@ -4,10 +4,10 @@ ghost use Rattle.isa.specs.Isa.{F3_SRL_SRA};
 ghost use Rattle.emit_native.specs.Parts.{held, after, answer, emitted};
 ghost use Rattle.instr32.specs.Instr32.{op_imm_arm, op_imm_32_arm};
 
-use crate::op::{C_CC, C_LT, emit_compared};
+use crate::op::emit_compared;
 use crate::op_32::emit_sxtw;
 use a64_emitter::A64Emitter;
-use emit_native::{Emitted, InstrEmitter};
+use emit_native::{C_CC, C_LT, Emitted, InstrEmitter};
 
 // SRLI and SRAI.
 #[tactic(auto, unfolding(crate::specs::Instr32::op_imm_arm))]

@@ -4,6 +4,7 @@ ghost use Rattle.word.specs.Word.{sext};
 ghost use Rattle.isa.specs.Formats.{i_imm, s_imm, b_imm, u_imm, j_imm, ciw_imm, ci_imm, ci16_imm, cj_imm, cb_imm, shamt_c};
 ghost use Rattle.isa.specs.Parts.{decoded};
 
+// Kept: no ghost fields for its registers' bounds: `decode32` of specs/Decode.antt builds it, and would hold proofs.
 #[derive(Clone, Copy)]
 pub struct Decoded32 {
     pub opcode: u8,
@@ -36,6 +37,7 @@ pub fn imm_s(instr: u32) -> u64
     sign_extend(imm as u64, 12)
 }
 
+// Kept: imm_b and imm_j, imm_ci16 and imm_cb: other bits in another order; no plainer as one.
 pub fn imm_b(instr: u32) -> u64
     ensures { result ≡ b_imm instr }
 {

@@ -27,6 +27,7 @@ pub enum Stop {
 
 // What the walk did: how many words there are, the index after its last inline instruction, how many instructions, why
 // it stopped, whether FENCE.I did that, and whether there was no room for one more.
+// Kept: two flags, by a named form of document 01: `Stop` has its five cases and no other.
 #[derive(Clone, Copy)]
 pub struct Walked {
     pub len: usize,
@@ -112,6 +113,7 @@ fn emit_term_helper(
 }
 
 // How many instructions a helper's emitter counts, and why the walk stops there, by its flow.
+// Kept: two matches on one flow, no plainer as a pair: the definitions are two.
 #[tactic(auto, unfolding(crate::specs::Parts::helped_count))]
 fn helped(flow: Option<EmitFlow>) -> u32
     ensures { result ≡ helped_count flow }
@@ -181,6 +183,7 @@ fn walk(words: &mut [u32], guest: &[u8], start: u64, from: Walked, most: u32, ho
     let mut n: u32 = from.n;
     let mut fence = false;
     let mut part = [0u32; INSTR_WORDS];
+    // Kept: a loop, by a named form of document 01: the walk breaks with an enum.
     let stop = loop {
         if lacks_room(len, words.len()) || n == most {
             break Stop::Limit;
@@ -238,6 +241,7 @@ fn walk_array<const N: usize>(
 
 // The block from `start` on, of at most `most` instructions, in a short emitter: the words of its instructions, then its
 // end; or, where it is full, the words so far.
+// Kept: guest, start, most and host side by side, by a rule of the project: the Rust's parameters in its order.
 pub fn compile_native_block(
     guest: &[u8],
     start: u64,

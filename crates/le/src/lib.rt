@@ -38,6 +38,7 @@ impl Number for u8 {
     }
 }
 
+// Kept: an impl for each width: no macro of the repository's own may write it.
 impl Number for u16 {
     ghost WIDTH = { 2 };
 

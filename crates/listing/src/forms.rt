@@ -5,6 +5,7 @@ ghost use Rattle.std.specs.Prelude.{◌≡◌, cond};
 ghost use Rattle.a64.specs.Forms.{decode, decode_op, decode_register, ops};
 ghost use Rattle.listing.specs.Parts.{outside};
 
+// Kept: no plainer as one with rv64's: a line over another width, in a crate that it does not use.
 fn pick(test: bool, yes: u32, no: u32) -> u32
     ensures { result ≡ cond test yes no }
 {

@@ -9,6 +9,7 @@ use crate::alu::sextw;
 use isa::zbb::{FUNCT6, FUNCT7, FUNCT12, key};
 
 // x where b, else y.
+// Kept: no plainer as one with listing's: a line over another width, in a crate that it does not use.
 fn pick(b: bool, x: u64, y: u64) -> u64
     ensures { result ≡ (if b then x else y) }
 {

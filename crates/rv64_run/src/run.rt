@@ -84,6 +84,7 @@ pub fn run(guest: &[u8], limit: u32, ignore_ebreak: bool, hart: Hart) -> Ran
     let mut h = hart;
     let mut at: usize = 0;
     let mut n: u32 = 0;
+    // Kept: a loop, by a named form of document 01: the walk breaks with an enum.
     let stop = loop {
         if n == limit {
             break Stop::Limit;

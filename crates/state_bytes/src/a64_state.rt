@@ -5,6 +5,7 @@ ghost use Rattle.state_bytes.specs.States as States;
 use a64_alu::Flags;
 use a64_exec::state::A64State;
 
+// Kept: no plainer as From: to_bytes writes into lent bytes, and a hart's from_bytes takes a PC besides.
 pub fn from_bytes(b: &[u8; 264]) -> A64State
     ensures { result ≡ States.a64_state b.now }
 {

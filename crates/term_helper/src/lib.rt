@@ -98,6 +98,7 @@ fn emit_memory_call(em: InstrEmitter<'_>, host: Host, pc: u64, prefix: u32) -> E
 }
 
 // For a load: no value.
+// Kept: host, pc, instr, d and prefix side by side, by a rule of the project: the Rust's parameters in its order.
 fn emit_load(
     em: InstrEmitter<'_>,
     host: Host,

@@ -7,6 +7,7 @@ ghost use Rattle.zbb.specs.Parts.{operands, operand};
 
 use emit_native::{Emitted, InstrEmitter};
 
+// Kept: a function for each field, no plainer with its place as a parameter: it is a line.
 fn rd(instr: u32) -> u8
     ensures { (result ≡ F.rd instr) × (result < 32) }
 {

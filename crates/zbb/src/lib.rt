@@ -14,21 +14,13 @@ use crate::number::emit_roriw;
 use crate::parts::emit_rotated;
 use crate::unary::emit_unary;
 use a64_emitter::A64Emitter;
-use emit_native::{Emitted, InstrEmitter};
+use emit_native::{C_CC, C_CS, C_GE, C_LT, Emitted, InstrEmitter};
 use isa::zbb::{FUNCT7, key};
 
 mod fields;
 mod number;
 mod parts;
 mod unary;
-
-const C_CS: u8 = 0x2;
-
-const C_CC: u8 = 0x3;
-
-const C_GE: u8 = 0xA;
-
-const C_LT: u8 = 0xB;
 
 // ANDN, ORN, XNOR, ROR: a body of one word.
 fn one(em: InstrEmitter<'_>, instr: u32, w: u32) -> Emitted<'_>

@@ -17,6 +17,7 @@ use emit_native::{Emitted, InstrEmitter};
 use isa::zbb::{FUNCT12, key};
 
 // CLZ, REV8: a body of one word.
+// Kept: no plainer with the operands as a flag: `one` of lib.rt loads two registers.
 fn one(em: InstrEmitter<'_>, instr: u32, w: u32) -> Emitted<'_>
     ensures { answer result ≡ emitted (held em.entry) (around (operand instr) (emit w ∷ []) instr) }
 {
@@ -46,6 +47,7 @@ fn ctz(em: InstrEmitter<'_>, instr: u32) -> Emitted<'_>
 }
 
 // CTZW: the bit above the word is a one.
+// Kept: this and CPOPW, no plainer as one: another constant, another word and another body.
 #[tactic(auto, unfolding(crate::specs::Emission::emission, crate::specs::Words::zbb_body))]
 fn ctzw(em: InstrEmitter<'_>, instr: u32) -> Emitted<'_>
     ensures { answer result ≡ emitted (held em.entry) (emission (Some (Found.Unary Zbb.Ctzw)) instr) }
