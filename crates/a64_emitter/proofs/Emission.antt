@@ -3,16 +3,16 @@ use Prim.Native.Nat.{ℕ, zero, suc, ◌+◌, ◌*◌, ◌%◌, ◌^◌, ◌≤�
 use native.Mathlib.Omega.{arith}
 use native.Mathlib.Numerals.{add-one}
 use mathlib.Core.Path.{◌≡◌, refl, sym, ap, ◌∙◌}
-use mathlib.Core.Bool.{Bool, true, false, cond}
+use mathlib.Core.Bool.{Bool, true, false, cond, not}
+use mir.Val.{bool_byte}
 use mathlib.Core.List.{List, [], ◌∷◌, ◌++◌, append_assoc, append-nil, flatten}
 use lib.ListN.{length, take, set, length-append, length-take}
 use lib.Seq.{take-nil, take-suc-set, take-take, take-append-le, take-append-add, length-take-le, paste, take-paste}
 use lib.Dec.{leb, eqb}
 use borrow.Author.Tests.{le-leb, lt-leb, eq-eqb, ne_eqb}
-use Rattle.rules.specs.Limits.{instr_words}
 use Rattle.le.specs.Parts.{over}
 use Rattle.le.proofs.Lists.{length-all_bytes}
-use Rattle.a64_emitter.specs.Parts.{emitted_in, emitted, in_turn, emitted_all, written, Written}
+use Rattle.a64_emitter.specs.Parts.{emitted_in, in_turn, written, Written}
 use Rattle.a64_emitter.specs.Writers.{part, movz, movk, mov_imm64}
 use Rattle.a64_emitter.specs.Emitter.{bytes}
 
@@ -47,15 +47,6 @@ in_turn-fits m h (g ∷ gs) f =
 -- then the calls are one
 in_turn_one : (m : ℕ) (h : List ℕ) (gs : List (List ℕ)) → length h + length (flatten gs) ≤ m → in_turn m h gs ≡ emitted_in m h (flatten gs)
 in_turn_one m h gs f = in_turn-fits m h gs f ∙ sym (emitted-fits m h (flatten gs) f)
-
--- the words of several calls on an emitter that holds nothing
-pub emitted_all_new : (h : List ℕ) (gs : List (List ℕ)) → h ≡ [] → length (flatten gs) ≤ instr_words → emitted_all h gs ≡ flatten gs
-emitted_all_new h gs e f = rw e (in_turn-fits instr_words [] gs (omega arith))
-
--- calls after calls
-pub emitted_all-append : (h : List ℕ) (gs bs : List (List ℕ)) → emitted_all h (gs ++ bs) ≡ emitted_all (emitted_all h gs) bs
-emitted_all-append h [] bs = refl
-emitted_all-append h (g ∷ gs) bs = emitted_all-append (emitted h g) gs bs
 
 -- ---- an array of words
 
@@ -153,6 +144,19 @@ movk-none rd hw p e = rw (eq-eqb p 0 e)
 pub movk-some : (rd hw p : ℕ) → (p ≡ 0 → ⊥) → movk rd hw p ≡ (0xF2800000 + hw * 2 ^ 21 + p * 2 ^ 5 + rd) ∷ []
 unfolding movk
 movk-some rd hw p e = rw (ne_eqb p 0 e)
+
+-- which is how many words it takes
+pub movk_count : (p : ℕ) → (bool_byte (not (eqb p 0)) ≤ 1) × ((rd hw : ℕ) → length (movk rd hw p) ≡ bool_byte (not (eqb p 0)))
+unfolding movk
+movk_count p = (at (eqb p 0), λ rd hw. of (eqb p 0) _)
+  where
+    at : (b : Bool) → bool_byte (not b) ≤ 1
+    at true = omega arith
+    at false = omega arith
+
+    of : (b : Bool) (w : ℕ) → length (cond b [] (w ∷ [])) ≡ bool_byte (not b)
+    of true w = refl
+    of false w = refl
 
 cond_most : (b : Bool) (w : ℕ) → length (cond b [] (w ∷ [])) ≤ 1
 cond_most true w = omega arith

@@ -7,14 +7,13 @@ use a64_run::run;
 use a64_run::run::Ran;
 use rules::refusals::Refused;
 use std::io;
-use std::rt::Files;
 
 // Whether the answer is the recorded one: every register, SP, NZCV, every memory byte, end and steps.
 // `x` is as at entry.
 fn answers(
     file: &mut &[u8],
     answer: Result<Ran, Refused<A64State>>,
-    x: &mut [u64],
+    x: &mut [u64; 31],
     memory: &[u8],
     after: &mut [u8],
 ) -> bool {
@@ -27,7 +26,7 @@ fn answers(
     let Ok(ran) = answer else {
         return false;
     };
-    replay::same_registers(&ran.state.x, x)
+    ran.state.x == *x
         && u32::from(ran.end) == end
         && ran.steps == steps
         && ran.state.sp == sp
@@ -46,10 +45,7 @@ fn agrees(file: &mut &[u8], block: &[u8], memory: &mut [u8], after: &mut [u8]) -
     let flags = Flags::from(u64::from(replay::read_byte(file)));
     let base = replay::read_number(file);
     let size = replay::read_size(file, 64);
-    if memory.len() < size {
-        return false;
-    }
-    if after.len() < size {
+    if memory.len() < size || after.len() < size {
         return false;
     }
     let memory = &mut memory[..size];
@@ -73,21 +69,15 @@ fn replay_case(file: &mut &[u8]) -> bool {
 // "A64CASES"
 const MAGIC: u64 = 0x5345_5341_4334_3641;
 
-// Replays a file's cases and says how many there were and how many differ.
-// A file that goes on after them differs too.
-fn replay_file(rt: &(impl Files + Print + Eprint + AllocGlobal), path: &str) -> io::Result<()> {
-    let Some(bytes) = replay::open(rt, path)? else {
-        return Ok(());
-    };
-    let mut file = bytes.as_slice();
-    let mut tally = replay::read_header(&mut file, MAGIC);
-    while tally.left > 0 {
-        tally = replay::counted(tally, replay::outcome_of(replay_case(&mut file)));
-    }
-    replay::report(rt, file, tally, " cases, ")
-}
-
 fn main(rt: HostRuntime) -> io::Result<()> {
-    replay_file(&rt, "a64.bin")?;
-    replay_file(&rt, "a64_rules.bin")
+    for path in ["a64.bin", "a64_rules.bin"] {
+        replay::replay_file(
+            &rt,
+            path,
+            Some(MAGIC),
+            " cases, ",
+            |file| Some(replay_case(file)),
+        )?;
+    }
+    Ok(())
 }

@@ -17,8 +17,8 @@ use Rattle.block_log.specs.Log.{index_bytes, bucket, cell, used, emptied, walk}
 use Rattle.block_log.proofs.Laws.{bucket-lt}
 use Rattle.block_log.proofs.Tests.{by_test, by_ltb}
 use Rattle.block_log.proofs.Walks.{walk_up}
-use Rattle.block_index.specs.declared.Placed.{Placed}
-use Rattle.block_index.specs.declared.Found.{Found}
+use Rattle.block_index.specs.Model.{Placed}
+use Rattle.block_index.specs.Model.{Found}
 use Rattle.block_index.specs.Model as Model
 use Rattle.block_index.specs.Model.{Block, end, overlap, without, with_room}
 use Rattle.block_index.specs.Index as Index

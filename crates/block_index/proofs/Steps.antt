@@ -12,7 +12,7 @@ use Rattle.block_log.specs.Log.{used, start_at, length_at, count_at}
 use Rattle.block_log.proofs.Tests.{by_eqb, by_ltb}
 use Rattle.block_index.specs.Index.{slot_of, found_at, lookup, last_end, start_for, overlap_at, swept_at, room_at, swept, room_left, reinserted_at, reinserted, result, placed_at, place}
 use Rattle.block_index.specs.Model as Model
-use Rattle.block_index.specs.declared.Found.{Found}
+use Rattle.block_index.specs.Model.{Found}
 
 -- ---- lookup
 

@@ -6,8 +6,8 @@ use Rattle.block_log.specs.Log.{index_bytes, emptied}
 use Rattle.block_index.specs.Model as Model
 use Rattle.block_index.specs.Model.{Block}
 use Rattle.block_index.specs.Index as Index
-use Rattle.block_index.specs.declared.Placed.{Placed}
-use Rattle.block_index.specs.declared.Found.{Found}
+use Rattle.block_index.specs.Model.{Placed}
+use Rattle.block_index.specs.Model.{Found}
 
 -- a call, refused or not
 pub data Call : Type 0 where

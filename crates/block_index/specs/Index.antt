@@ -6,8 +6,8 @@ use Rattle.rules.specs.Refusals as Refusals
 use Rattle.block_log.specs.declared.Entry.{Entry}
 use Rattle.block_log.specs.Log.{slots, bucket, cell, used, emptied, space_at, pc_at, start_at, length_at, count_at, entry_at, tombstone, walk, dropped, pushed}
 use Rattle.block_index.specs.Model as Model
-use Rattle.block_index.specs.declared.Placed.{Placed}
-use Rattle.block_index.specs.declared.Found.{Found}
+use Rattle.block_index.specs.Model.{Placed}
+use Rattle.block_index.specs.Model.{Found}
 
 -- ---- lookup
 

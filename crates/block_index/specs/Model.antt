@@ -1,8 +1,29 @@
 -- The index as document 02, No. 2, has it: the blocks that were placed and not dropped, the newest first. Nothing of its bytes.
-use Rattle.std.specs.Prelude.{ℕ, ◌+◌, ◌-◌, ◌%◌, Bool, cond, not, ◌&&◌, ◌||◌, List, [], ◌∷◌, eqb, ltb, length, take}
+use Rattle.std.specs.Prelude.{ℕ, ◌+◌, ◌-◌, ◌%◌, Bool, cond, not, ◌&&◌, ◌||◌, List, [], ◌∷◌, eqb, ltb, length, take, Result, Ok, Err}
 use Rattle.rules.specs.Refusals as Refusals
-use Rattle.block_index.specs.declared.Placed.{Placed}
-use Rattle.block_index.specs.declared.Found.{Found}
+use Rattle.rules.specs.declared.refusals.Refusal.{Refusal}
+use Rattle.block_log.specs.declared.Entry.{Entry}
+
+-- the refusal, 0 where the code was placed; where it starts
+pub record Placed : Type 0 where
+  pub refusal : ℕ
+  pub start : ℕ
+
+-- the refusal, 0 where the block was found; where its code starts, its length, its count of guest instructions
+pub record Found : Type 0 where
+  pub refusal : ℕ
+  pub start : ℕ
+  pub length : ℕ
+  pub count : ℕ
+
+-- the code's answers as numbers
+abbrev pub place_answer : Result ℕ Refusal → Placed
+place_answer (Ok start) = record { refusal = Refusals.accepted; start = start }
+place_answer (Err r) = record { refusal = Refusals.number r; start = 0 }
+
+abbrev pub lookup_answer : Result Entry Refusal → Found
+lookup_answer (Ok e) = record { refusal = Refusals.accepted; start = e.start; length = e.length; count = e.count }
+lookup_answer (Err r) = record { refusal = Refusals.number r; start = 0; length = 0; count = 0 }
 
 -- a block under its key, space and PC; where its code starts in the store; its count of guest instructions
 pub record Block : Type 0 where

@@ -1,19 +1,14 @@
--- One zero more at the front of a log. Assumes nothing.
-use Prim.Native.Nat.{ℕ, ◌+◌, ◌^◌, ◌<◌, ◌≤◌}
-use mathlib.Core.Path.{◌≡◌}
-use mathlib.Core.List.{List, ◌++◌, append_assoc}
+-- The front of a log filled with zeros. Assumes nothing.
+use Rattle.std.proofs.Common.{◌≡◌, refl, ℕ, zero, suc, ◌≤◌, List, ◌++◌, length, take, drop}
+use Rattle.std.specs.Prelude.{replicate}
 use native.Mathlib.Nat.{zero-div}
-use native.Mathlib.Omega.{arith}
-use native.Mathlib.Numerals.{add-one}
-use lib.ListN.{length, drop, set, length-append, length-drop}
-use lib.Seq.{drop-cons, set_at}
+use lib.Seq.{length-take-le}
 use Rattle.le.specs.Le.{bytes}
-use Rattle.le.proofs.Laws.{bytes-add, length-bytes}
 
-pub zero_more : (m : List ℕ) (i : ℕ) → i < length m → set (bytes i 0 ++ drop i m) i 0 ≡ bytes (i + 1) 0 ++ drop (i + 1) m
+zeros : (k : ℕ) → replicate k 0 ≡ bytes k 0
 unfolding bytes
-zero_more m i h =
-    rw (drop-cons m i 0 h, set_at (bytes i 0) _ (drop _ m) 0 i (length-bytes i 0), bytes-add i 1 0, zero-div (256 ^ i), append_assoc, add-one)
+zeros zero = refl
+zeros (suc k) = rw (zeros k)
 
-pub length_zeros : (m : List ℕ) (i : ℕ) → i ≤ length m → length (bytes i 0 ++ drop i m) ≡ length m
-length_zeros m i h = simp (length-append, length-bytes, length-drop) (omega arith)
+pub zeros_before : (k : ℕ) (m s : List ℕ) → s ≡ replicate (length (take k m)) 0 → k ≤ length m → s ++ drop k m ≡ bytes k 0 ++ drop k m
+zeros_before k m s e h = rw (e, length-take-le k m h, zeros k)

@@ -1,11 +1,14 @@
 // The bytes of an index: a log of slots, and a chain of slots for each bucket. specs/Log.antt has the layout.
 #![tactic(auto)]
 
-ghost use Rattle.std.specs.Prelude.{◌≡◌, ◌+◌, ◌<◌, ◌≤◌, length};
+ghost use Rattle.std.specs.Prelude.{◌≡◌, ◌+◌, ◌<◌, ◌≤◌, ◌%◌};
 ghost use Rattle.le.specs.Le.{store};
 ghost use Rattle.block_log.specs.Log as L;
 
 pub const INDEX_BYTES: usize = 45056;
+
+// The bytes of an index.
+pub type Index = [u8; INDEX_BYTES];
 
 pub const BUCKETS: usize = 2048;
 
@@ -17,8 +20,34 @@ const LOG: usize = 2 * BUCKETS;
 
 const SLOT_BYTES: usize = 40;
 
+// A slot by its number. A chain ends at slot 0.
+// Kept: 0 and no Option, by what may not change: `unlinked` of specs/Log.antt writes slot 0 where a chain lacks a slot.
+#[derive(Clone, Copy, PartialEq, Eq, Debug)]
+pub struct Slot {
+    pub number: u16,
+    pub ghost in_log: { number < 1024 },
+}
+
+impl Slot {
+    // Any number is a slot's, modulo their count.
+    pub fn new(number: u16) -> Slot
+        ensures { result.number ≡ number % L.slots }
+    {
+        Slot {
+            number: number % SLOTS,
+        }
+    }
+
+    // Where the slot starts.
+    fn at(self) -> usize
+        ensures { result ≡ L.at self.number }
+    {
+        LOG + SLOT_BYTES * self.number as usize
+    }
+}
+
 // What the index holds of a block.
-#[derive(Clone, Copy)]
+#[derive(Clone, Copy, PartialEq, Eq, Debug)]
 pub struct Entry {
     pub space: u64,
     pub pc: u64,
@@ -35,162 +64,111 @@ pub fn bucket(space: u64, pc: u64) -> usize
     hash as usize % BUCKETS
 }
 
-pub fn cell(m: &[u8], b: usize) -> u16
-    requires { (length m.now ≡ L.index_bytes) × (b ≤ L.buckets) }
-    ensures { (result ≡ L.cell m.now b) × (result < L.slots) }
+pub fn cell(m: &Index, b: usize) -> Slot
+    requires { b ≤ L.buckets }
+    ensures { result.number ≡ L.cell m.now b }
 {
-    le::load::<u16>(m, 2 * b) % SLOTS
+    Slot::new(le::load(m, 2 * b))
 }
 
 // The last slot used.
-pub fn used(m: &[u8]) -> u16
-    requires { length m.now ≡ L.index_bytes }
-    ensures { (result ≡ L.used m.now) × (result < L.slots) }
+pub fn used(m: &Index) -> Slot
+    ensures { result.number ≡ L.used m.now }
 {
     cell(m, BUCKETS)
 }
 
-pub fn space_at(m: &[u8], p: u16) -> u64
-    requires { (length m.now ≡ L.index_bytes) × (p < L.slots) }
-    ensures { result ≡ L.space_at m.now p }
+pub fn next_at(m: &Index, p: Slot) -> Slot
+    ensures { result.number ≡ L.next_at m.now p.number }
 {
-    le::load::<u64>(m, LOG + SLOT_BYTES * p as usize)
+    Slot::new(le::load(m, p.at() + 32))
 }
 
-pub fn pc_at(m: &[u8], p: u16) -> u64
-    requires { (length m.now ≡ L.index_bytes) × (p < L.slots) }
-    ensures { result ≡ L.pc_at m.now p }
+pub fn entry_at(m: &Index, p: Slot) -> Entry
+    ensures { result ≡ L.entry_at m.now p.number }
 {
-    le::load::<u64>(m, LOG + SLOT_BYTES * p as usize + 8)
-}
-
-pub fn start_at(m: &[u8], p: u16) -> u64
-    requires { (length m.now ≡ L.index_bytes) × (p < L.slots) }
-    ensures { result ≡ L.start_at m.now p }
-{
-    le::load::<u64>(m, LOG + SLOT_BYTES * p as usize + 16)
-}
-
-pub fn length_at(m: &[u8], p: u16) -> u64
-    requires { (length m.now ≡ L.index_bytes) × (p < L.slots) }
-    ensures { result ≡ L.length_at m.now p }
-{
-    le::load::<u64>(m, LOG + SLOT_BYTES * p as usize + 24)
-}
-
-pub fn next_at(m: &[u8], p: u16) -> u16
-    requires { (length m.now ≡ L.index_bytes) × (p < L.slots) }
-    ensures { (result ≡ L.next_at m.now p) × (result < L.slots) }
-{
-    le::load::<u16>(m, LOG + SLOT_BYTES * p as usize + 32) % SLOTS
-}
-
-pub fn count_at(m: &[u8], p: u16) -> u8
-    requires { (length m.now ≡ L.index_bytes) × (p < L.slots) }
-    ensures { result ≡ L.count_at m.now p }
-{
-    m[LOG + SLOT_BYTES * p as usize + 34]
-}
-
-pub fn entry_at(m: &[u8], p: u16) -> Entry
-    requires { (length m.now ≡ L.index_bytes) × (p < L.slots) }
-    ensures { result ≡ L.entry_at m.now p }
-{
+    let at = p.at();
     Entry {
-        space: space_at(m, p),
-        pc: pc_at(m, p),
-        start: start_at(m, p),
-        length: length_at(m, p),
-        count: count_at(m, p),
+        space: le::load(m, at),
+        pc: le::load(m, at + 8),
+        start: le::load(m, at + 16),
+        length: le::load(m, at + 24),
+        count: le::load(m, at + 34),
     }
 }
 
-fn put_count(m: &mut [u8], p: u16, count: u8)
-    requires { (length m.old ≡ L.index_bytes) × (p < L.slots) }
-    ensures { m.new ≡ store 1 m.old (L.at p + 34) count }
+fn put(m: &mut Index, p: Slot, e: Entry, next: Slot)
+    ensures { m.new ≡ L.put m.old p.number e next.number }
 {
-    m[LOG + SLOT_BYTES * p as usize + 34] = count;
-}
-
-fn put(m: &mut [u8], p: u16, e: Entry, next: u16)
-    requires { (length m.old ≡ L.index_bytes) × (p < L.slots) }
-    ensures { m.new ≡ L.put m.old p e next }
-{
-    let at = LOG + SLOT_BYTES * p as usize;
+    let at = p.at();
     le::store(m, at, e.space);
     le::store(m, at + 8, e.pc);
     le::store(m, at + 16, e.start);
     le::store(m, at + 24, e.length);
-    le::store(m, at + 32, next);
-    put_count(m, p, e.count);
+    le::store(m, at + 32, next.number);
+    le::store(m, at + 34, e.count);
 }
 
 // The slot before p in the chain with this head, 0 where there is none. In a log that the calls made, the slots of a
 // chain fall.
-fn previous(m: &[u8], head: u16, p: u16) -> u16
-    requires { (length m.now ≡ L.index_bytes) × (head < L.slots) }
-    ensures { (result ≡ L.previous m.now head p) × (result < L.slots) }
+fn previous(m: &Index, head: Slot, p: Slot) -> Slot
+    ensures { result.number ≡ L.previous m.now head.number p.number }
 {
     let mut q = head;
-    while q != 0 {
+    while q.number != 0 {
         let next = next_at(m, q);
-        if next == p {
+        if next.number == p.number {
             return q;
         }
-        if q <= next {
-            return 0;
+        if q.number <= next.number {
+            return Slot::new(0);
         }
         q = next;
     }
-    0
+    q
 }
 
 // Takes slot p out of bucket b's chain.
-fn unlink(m: &mut [u8], b: usize, p: u16)
-    requires { (length m.old ≡ L.index_bytes) × (b < L.buckets) × (p < L.slots) }
-    ensures { m.new ≡ L.unlinked m.old b p }
+fn unlink(m: &mut Index, b: usize, p: Slot)
+    requires { b < L.buckets }
+    ensures { m.new ≡ L.unlinked m.old b p.number }
 {
     let next = next_at(m, p);
     let head = cell(m, b);
-    if head == p {
-        le::store(m, 2 * b, next);
+    if head.number == p.number {
+        le::store(m, 2 * b, next.number);
         return;
     }
     let q = previous(m, head, p);
-    le::store(m, LOG + SLOT_BYTES * q as usize + 32, next);
+    le::store(m, q.at() + 32, next.number);
 }
 
 // The block at a slot is dropped: the slot is a tombstone, and in no chain.
-pub fn drop_at(m: &mut [u8], p: u16)
-    requires { (length m.old ≡ L.index_bytes) × (p < L.slots) }
-    ensures { m.new ≡ L.dropped m.old p }
+pub fn drop_at(m: &mut Index, p: Slot)
+    ensures { m.new ≡ L.dropped m.old p.number }
 {
-    let b = bucket(space_at(m, p), pc_at(m, p));
-    unlink(m, b, p);
-    le::store(m, LOG + SLOT_BYTES * p as usize + 24, 0u64);
+    let e = entry_at(m, p);
+    unlink(m, bucket(e.space, e.pc), p);
+    le::store(m, p.at() + 24, 0u64);
 }
 
 // No slot used, no slot in a chain.
-pub fn empty(m: &mut [u8])
-    requires { length m.old ≡ L.index_bytes }
+pub fn empty(m: &mut Index)
     ensures { m.new ≡ L.emptied m.old }
 {
-    let mut i = 0;
-    while i < LOG + 2 {
-        m[i] = 0;
-        i += 1;
-    }
+    m[..LOG + 2].fill(0);
 }
 
 // An entry after the last slot used, the head of its chain.
-pub fn push(m: &mut [u8], e: Entry)
-    requires { length m.old ≡ L.index_bytes }
+pub fn push(m: &mut Index, e: Entry)
     ensures { m.new ≡ L.pushed m.old e }
 {
-    let p = used(m) % (SLOTS - 1) + 1;
+    let p = Slot {
+        number: used(m).number % (SLOTS - 1) + 1,
+    };
     let b = bucket(e.space, e.pc);
     let next = cell(m, b);
     put(m, p, e, next);
-    le::store(m, 2 * b, p);
-    le::store(m, LOG, p);
+    le::store(m, 2 * b, p.number);
+    le::store(m, LOG, p.number);
 }

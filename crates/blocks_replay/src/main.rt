@@ -111,11 +111,9 @@ fn replay_file(rt: &(impl Files + Print + Eprint + AllocGlobal), path: &str) -> 
         return Ok(());
     };
     let mut file = bytes.as_slice();
-    let mut tally = replay::read_header(&mut file, MAGIC);
+    let count = replay::read_header(&mut file, MAGIC);
     replay::read_number(&mut file);
-    while tally.left > 0 {
-        tally = replay::counted(tally, replay::outcome_of(replay_case(&mut file)));
-    }
+    let tally = replay::replay_cases(&mut file, count, |file| Some(replay_case(file)));
     print!(rt; "{path}: ")?;
     replay::report(rt, file, tally, " cases, ")
 }

@@ -1,22 +1,52 @@
 -- Emitters that call one another. Assumes nothing.
 use Prim.Native.Nat.{ℕ}
-use mathlib.Core.Path.{◌≡◌, ◌∙◌}
-use mathlib.Core.List.{List, map-append}
-use Rattle.a64_emitter.specs.Parts.{emitted_all, Adds}
-use Rattle.a64_emitter.proofs.Emission.{emitted_all-append}
-use Rattle.emit_native.specs.declared.Emitted.{Emitted}
-use Rattle.emit_native.specs.Calls.{Call, groups, Emission, calls_first, store_rd, then_store_rd}
-use Rattle.emit_native.specs.Parts.{Emits}
+use mathlib.Core.Path.{◌≡◌, refl, ap, ◌∙◌}
+use mathlib.Core.Bool.{Bool, true, false}
+use mathlib.Core.List.{List, [], ◌∷◌, ◌++◌}
+use lib.Dec.{eqb}
+use Rattle.std.specs.Prelude.{Option, Some, None}
+use Rattle.rules.specs.Limits.{instr_words}
+use Rattle.a64_emitter.specs.Writers.{str_x}
+use Rattle.a64_emitter.specs.Parts.{emitted_in, emitted_if, in_turn}
+use Rattle.a64_emitter.proofs.Emission.{emitted-none}
+use Rattle.emit_native.specs.declared.EmitFlow.{EmitFlow}
+use Rattle.emit_native.specs.declared.EmitFlow.TheVariants.{Continue, Terminate}
+use Rattle.emit_native.specs.Calls.{Call, groups, reg_off, store_rd, Emission, calls_first, then_store_rd}
+use Rattle.emit_native.specs.Parts.{Held, Answer, after, emit_if, emitted, stores, stored}
+use Rattle.emit_native.proofs.Size.{by}
 
--- calls after those of a match
-pub then : (slot_offset rd : ℕ) (h : List ℕ) (e : Emission) (out r : Emitted) (l l' : List ℕ) → Emits slot_offset h e out l
-    → Adds out.em l r.em l' (groups slot_offset (store_rd out.flow rd)) × (r.flow ≡ out.flow)
-    → Emits slot_offset h (then_store_rd rd e) r l'
-then slot_offset rd h e out r l l' a b =
-    record { long = b.0.long; words = rw (b.0.holds, a.words, a.flow, map-append, emitted_all-append); flow = b.1 ∙ a.flow }
+-- calls after calls
+pub after_append : (h : Held) (cs ds : List Call) → after h (cs ++ ds) ≡ after (after h cs) ds
+after_append h [] ds = refl
+after_append h (c ∷ cs) ds = after_append (after h (c ∷ [])) cs ds
 
--- calls in front of it
-pub first : (slot_offset : ℕ) (h h' : List ℕ) (cs : List Call) (e : Emission) (r : Emitted) (l : List ℕ) → h' ≡ emitted_all h (groups slot_offset cs)
-    → Emits slot_offset h' e r l → Emits slot_offset h (calls_first cs e) r l
-first slot_offset h h' cs e r l a b =
-    record { long = b.long; words = b.words ∙ rw (a, map-append, emitted_all-append); flow = b.flow }
+-- an answer from what is held, by another name
+pub from : {h h' : Held} (e : Emission) {r : Answer} → h ≡ h' → r ≡ emitted h e → r ≡ emitted h' e
+from e q a = a ∙ ap (λ (h : Held). emitted h e) q
+
+-- calls, and then what a match answers
+pub first : (h : Held) (cs : List Call) (e : Emission) → emitted (after h cs) e ≡ emitted h (calls_first cs e)
+first h cs e = rw (after_append h cs e.calls) refl
+
+-- and `store_rd` after the match
+pub then : (h : Held) (cs : List Call) (e : Emission) (rd : ℕ) → stored (emitted (after h cs) e) rd ≡ emitted h (calls_first cs (then_store_rd rd e))
+then h cs e rd = rw (after_append h cs (e.calls ++ store_rd e.flow rd), after_append (after h cs) e.calls (store_rd e.flow rd)) refl
+
+-- a call that a test asks for
+pub asked : (h : Held) (test : Bool) (w : ℕ) → record { words = emitted_in instr_words h.words (emitted_if test w); slot_offset = h.slot_offset } ≡ after h (emit_if test w)
+unfolding emitted_if
+asked h true w = refl
+asked h false w = rw (emitted-none instr_words h.words) refl
+
+-- the words that are then held, by groups
+pub after_words : (h : Held) (cs : List Call) → (after h cs).words ≡ in_turn instr_words h.words (groups h.slot_offset cs)
+after_words h [] = refl
+after_words h (c ∷ cs) = after_words (after h (c ∷ [])) cs
+
+-- the store after a match, by its test
+pub asked_store : (h : Held) (f : Option EmitFlow) (rd : ℕ)
+    → after h (emit_if (stores f rd) (str_x 11 0 (reg_off h.slot_offset rd))) ≡ after h (store_rd f rd)
+unfolding stores store_rd
+asked_store h (Some Continue) rd = by (eqb rd 0) (λ t. rw t refl) (λ t. rw t refl)
+asked_store h (Some Terminate) rd = refl
+asked_store h None rd = refl

@@ -8,7 +8,8 @@ use lib.Dec.{eqb, leb, T, leb→le}
 use lib.ListN.{length, length-append}
 use Rattle.a64_emitter.proofs.Emission.{constant_most}
 use Rattle.emit_native.specs.declared.EmitFlow.{EmitFlow}
-use Rattle.emit_native.specs.declared.EmitFlow.TheVariants.{Continue, Terminate, None}
+use Rattle.emit_native.specs.declared.EmitFlow.TheVariants.{Continue, Terminate}
+use Rattle.std.specs.Prelude.{Option, Some, None}
 use Rattle.emit_native.specs.Calls.{Call, emit, mov_imm64, load, store, product, call_words, groups, if_not_0, store_rd, Emission, calls_first, then_store_rd}
 
 abbrev pub size : ℕ → List Call → ℕ
@@ -59,10 +60,10 @@ module _ (slot_offset : ℕ) where
       at true = omega arith
       at false = h
 
-  store-size : (f : EmitFlow) (rd : ℕ) → size slot_offset (store_rd f rd) ≤ 1
+  store-size : (f : Option EmitFlow) (rd : ℕ) → size slot_offset (store_rd f rd) ≤ 1
   unfolding store_rd flatten
-  store-size Continue rd = if_size rd (store 11 rd ∷ []) 1 (size-le (store 11 rd ∷ []))
-  store-size Terminate rd = omega arith
+  store-size (Some Continue) rd = if_size rd (store 11 rd ∷ []) 1 (size-le (store 11 rd ∷ []))
+  store-size (Some Terminate) rd = omega arith
   store-size None rd = omega arith
 
   -- an emission of at most n words

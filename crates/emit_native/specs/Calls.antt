@@ -1,10 +1,10 @@
 -- Calls of the emitter, one for each line of the Rust, and the words that each adds.
-use Rattle.std.specs.Prelude.{ℕ, ◌+◌, ◌*◌, cond, eqb}
+use Rattle.std.specs.Prelude.{ℕ, ◌+◌, ◌*◌, cond, eqb, Option, Some, None}
 use mathlib.Core.List.{List, [], ◌∷◌, ◌++◌, map, flatten}
 use Rattle.a64_emitter.specs.Writers.{ldr_x, str_x, movz}
 use Rattle.a64_emitter.specs.Writers as Writers
 use Rattle.emit_native.specs.declared.EmitFlow.{EmitFlow}
-use Rattle.emit_native.specs.declared.EmitFlow.TheVariants.{Continue, Terminate, None}
+use Rattle.emit_native.specs.declared.EmitFlow.TheVariants.{Continue, Terminate}
 
 -- ---- calls
 
@@ -59,13 +59,13 @@ if_not_0 n cs = cond (eqb n 0) [] cs
 
 pub record Emission : Type 0 where
   pub calls : List Call
-  pub flow : EmitFlow
+  pub flow : Option EmitFlow
 
 abbrev pub continue : List Call → Emission
-continue cs = record { calls = cs; flow = Continue }
+continue cs = record { calls = cs; flow = Some Continue }
 
 abbrev pub terminate : List Call → Emission
-terminate cs = record { calls = cs; flow = Terminate }
+terminate cs = record { calls = cs; flow = Some Terminate }
 
 abbrev pub none : List Call → Emission
 none cs = record { calls = cs; flow = None }
@@ -75,9 +75,9 @@ abbrev pub calls_first : List Call → Emission → Emission
 calls_first cs e = record { calls = cs ++ e.calls; flow = e.flow }
 
 -- `store_rd(em, rd)` after a match, which a `return None` passes by
-unfoldable pub store_rd : EmitFlow → ℕ → List Call
-store_rd Continue rd = if_not_0 rd (store 11 rd ∷ [])
-store_rd Terminate rd = []
+unfoldable pub store_rd : Option EmitFlow → ℕ → List Call
+store_rd (Some Continue) rd = if_not_0 rd (store 11 rd ∷ [])
+store_rd (Some Terminate) rd = []
 store_rd None rd = []
 
 abbrev pub then_store_rd : ℕ → Emission → Emission

@@ -1,23 +1,34 @@
-// What the emitters of jit_arm64.rs share: their answer, what the host gives, and calls.
+// What the emitters of jit_arm64.rs share: an instruction's emitter, their answer, and what the host gives.
 #![tactic(auto)]
 
-use a64_emitter::InstrEmitter;
+ghost use Rattle.std.specs.Prelude.{◌≤◌};
+ghost use Rattle.rules.specs.Limits.{max_slot_offset};
 
-pub mod calls;
+use rules::INSTR_WORDS;
 
-// What an emitter answers: the block goes on, ends, or the instruction is not inline.
-#[derive(Clone, Copy)]
+mod calls;
+
+// The emitter of one instruction: an array that is lent, how many words it holds of it, and the slot offset.
+#[derive(Drop)]
+pub struct InstrEmitter<'a> {
+    pub words: &'a mut [u32; INSTR_WORDS],
+    pub len: usize,
+    pub slot_offset: u64,
+    ghost in_reach: { slot_offset ≤ max_slot_offset },
+}
+
+// What an instruction does to the block: it goes on, or ends.
+#[derive(Clone, Copy, PartialEq)]
 pub enum EmitFlow {
     Continue,
     Terminate,
-    None,
 }
 
-// The emitter, with what it was given, and the flow.
+// What an emitter answers: the emitter that it was given, and the flow, or none where the instruction is not inline.
 #[derive(Drop)]
-pub struct Emitted {
-    pub em: InstrEmitter,
-    pub flow: EmitFlow,
+pub struct Emitted<'a> {
+    pub em: InstrEmitter<'a>,
+    pub flow: Option<EmitFlow>,
 }
 
 // What the host gives: the slot offset, the three helpers' addresses, and whether C.EBREAK is ignored.

@@ -1,10 +1,22 @@
--- The hash of two texts one after the other. Assumes nothing.
+-- The hash of two texts one after the other, and as a fold. Assumes nothing.
 use Prim.Native.Nat.{ℕ}
 use mathlib.Core.Path.{◌≡◌, refl}
 use mathlib.Core.List.{List, [], ◌∷◌, ◌++◌}
+use Rattle.std.specs.List.{fold}
+use Rattle.std.specs.Int.{bytes_low_first}
+use Rattle.le.specs.Le.{bytes}
+use Rattle.le.proofs.Arrays.{low_bytes}
 use Rattle.fnv1a.specs.Fnv1a.{step, more}
 
 pub more_append : (h : ℕ) (a b : List ℕ) → more h (a ++ b) ≡ more (more h a) b
 unfolding more
 more_append h [] b = refl
 more_append h (x ∷ a) b = more_append (step h x) a b
+
+pub more_folded : (h : ℕ) (s : List ℕ) → fold step h s ≡ more h s
+unfolding more
+more_folded h [] = refl
+more_folded h (b ∷ s) = more_folded (step h b) s
+
+pub low_bytes_folded : (k h v : ℕ) → fold step h (bytes_low_first 0 k v) ≡ more h (bytes k v)
+low_bytes_folded k h v = rw (low_bytes k v, more_folded)

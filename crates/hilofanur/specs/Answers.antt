@@ -15,8 +15,7 @@ use Rattle.hilofanur.specs.declared.ListAnswer.{ListAnswer}
 use Rattle.hilofanur.specs.declared.IndexPlaceAnswer.{IndexPlaceAnswer}
 use Rattle.hilofanur.specs.declared.IndexLookupAnswer.{IndexLookupAnswer}
 use Rattle.listing.specs.declared.Listed.{Listed}
-use Rattle.block_index.specs.declared.Placed.{Placed}
-use Rattle.block_index.specs.declared.Found.{Found}
+use Rattle.block_index.specs.Model.{Placed, Found}
 
 -- ---- Translate: the answer, and the output's bytes
 
@@ -55,8 +54,11 @@ pub record PlaceResult : Type 0 where
 abbrev pub place_result : PlaceAnswer → List ℕ → PlaceResult
 place_result a store = record { answer = a; store = store }
 
-abbrev pub place_of : P.Result → PlaceResult
-place_of p = place_result (record { refusal = p.answer.refusal; start = p.answer.start; used = p.answer.used }) p.store
+abbrev pub place_numbers : P.Answer → PlaceAnswer
+place_numbers a = record { refusal = a.refusal; start = a.start; used = a.used }
+
+abbrev pub place_of : P.Outcome → PlaceResult
+place_of p = place_result (place_numbers p.answer) p.store
 
 abbrev pub place : List ℕ → ℕ → List ℕ → PlaceResult
 place store used code = place_of (P.place store used code)

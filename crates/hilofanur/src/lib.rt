@@ -9,9 +9,14 @@ ghost use Rattle.translation.specs.Size.{Size};
 ghost use Rattle.listing.specs.Listing.{Lists};
 ghost use Rattle.block_log.specs.Log.{emptied};
 ghost use Rattle.block_index.specs.History.{Looks, Places};
+ghost use Rattle.block_index.specs.Model as Model;
+ghost use Rattle.code_cache.specs.Place as P;
 ghost use Rattle.hilofanur.specs.Answers as Answers;
 
+use block_log::Entry;
+use code_cache::Placed;
 use emit_native::Host;
+use rules::refusals::Refusal;
 use state_bytes::{a64_state, rv64_hart};
 
 // The refusal, 0 where the block was written; its length in bytes; its count of instructions; the number of its end kind.
@@ -31,6 +36,25 @@ pub struct PlaceAnswer {
     pub refusal: u64,
     pub start: u64,
     pub used: u64,
+}
+
+impl From<Result<Placed, Refusal>> for PlaceAnswer {
+    ghost from_gives = { λ r a. a ≡ Answers.place_numbers (P.answer r) };
+
+    fn from(answer: Result<Placed, Refusal>) -> PlaceAnswer {
+        match answer {
+            Ok(placed) => PlaceAnswer {
+                refusal: 0,
+                start: placed.start,
+                used: placed.used,
+            },
+            Err(refusal) => PlaceAnswer {
+                refusal: u64::from(refusal),
+                start: 0,
+                used: 0,
+            },
+        }
+    }
 }
 
 // The refusal; the end's number, 0 where refused; the steps done.
@@ -68,6 +92,20 @@ pub struct IndexPlaceAnswer {
     pub start: u64,
 }
 
+impl From<Result<u64, Refusal>> for IndexPlaceAnswer {
+    ghost from_gives = { λ r a. Answers.placed a ≡ Model.place_answer r };
+
+    fn from(answer: Result<u64, Refusal>) -> IndexPlaceAnswer {
+        match answer {
+            Ok(start) => IndexPlaceAnswer { refusal: 0, start },
+            Err(refusal) => IndexPlaceAnswer {
+                refusal: u64::from(refusal),
+                start: 0,
+            },
+        }
+    }
+}
+
 // The refusal, 0 where the block was found; where its code starts in the store, its length, its count of guest instructions.
 #[repr(C)]
 #[derive(Drop)]
@@ -76,6 +114,27 @@ pub struct IndexLookupAnswer {
     pub start: u64,
     pub length: u64,
     pub count: u64,
+}
+
+impl From<Result<Entry, Refusal>> for IndexLookupAnswer {
+    ghost from_gives = { λ r a. Answers.found a ≡ Model.lookup_answer r };
+
+    fn from(answer: Result<Entry, Refusal>) -> IndexLookupAnswer {
+        match answer {
+            Ok(e) => IndexLookupAnswer {
+                refusal: 0,
+                start: e.start,
+                length: e.length,
+                count: u64::from(e.count),
+            },
+            Err(refusal) => IndexLookupAnswer {
+                refusal: u64::from(refusal),
+                start: 0,
+                length: 0,
+                count: 0,
+            },
+        }
+    }
 }
 
 #[unsafe(no_mangle)]
@@ -116,12 +175,7 @@ pub extern "C" fn hilofanur_translate(
 pub extern "C" fn hilofanur_place(store: &mut [u8], used: u64, code: &[u8]) -> PlaceAnswer
     ensures { Answers.place_result result store.new ≡ Answers.place store.old used code.now }
 {
-    let placed = code_cache::place(store, used, code);
-    PlaceAnswer {
-        refusal: placed.refusal,
-        start: placed.start,
-        used: placed.used,
-    }
+    PlaceAnswer::from(code_cache::place(store, used, code))
 }
 
 // state: X0 to X30, SP and NZCV, eight bytes each.
@@ -231,11 +285,7 @@ pub extern "C" fn hilofanur_index_place(
 ) -> IndexPlaceAnswer
     ensures { Places index.old store.old space pc count code.now (Answers.placed result) index.new store.new }
 {
-    let answer = block_index::place(index, store, space, pc, count, code);
-    IndexPlaceAnswer {
-        refusal: answer.refusal,
-        start: answer.start,
-    }
+    IndexPlaceAnswer::from(block_index::place(index, store, space, pc, count, code))
 }
 
 #[unsafe(no_mangle)]
@@ -246,11 +296,5 @@ pub extern "C" fn hilofanur_index_lookup(
 ) -> IndexLookupAnswer
     ensures { Looks index.now space pc (Answers.found result) }
 {
-    let found = block_index::lookup(index, space, pc);
-    IndexLookupAnswer {
-        refusal: found.refusal,
-        start: found.start,
-        length: found.length,
-        count: found.count,
-    }
+    IndexLookupAnswer::from(block_index::lookup(index, space, pc))
 }

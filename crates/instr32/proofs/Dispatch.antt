@@ -1,14 +1,13 @@
 -- The match on the opcode is the match on its class. Assumes nothing.
-use Rattle.std.proofs.Common.{◌≡◌, ℕ, ◌%◌, Bool, true, false, cond, eqb, List, [], refl, arith, eqb-true}
+use Rattle.std.proofs.Common.{◌≡◌, ◌⊎◌, inl, inr, ℕ, ◌%◌, Bool, true, false, cond, eqb, [], refl, arith, eqb-true}
 use Rattle.isa.specs.declared.classes.Class.{Class}
 use Rattle.isa.specs.declared.classes.Class.TheVariants.{Load, LoadFp, MiscMem, OpImm, Auipc, OpImm32, Store, StoreFp, Amo, Op, Lui, Op32, Branch, Jalr, Jal, System, Other}
 use Rattle.isa.specs.declared.decode.Decoded32.{Decoded32}
 use Rattle.isa.specs.Classes.{class_of}
-use Rattle.emit_native.specs.declared.Emitted.{Emitted}
 use Rattle.emit_native.specs.Calls.{Emission, none}
 use Rattle.isa.specs.Decode.{decode32}
 use Rattle.instr32.specs.Instr32.{lui, auipc, jal, jalr, branch, op_imm, op_imm_32, op_32, op, misc_mem, emit_native_instr}
-use Rattle.emit_native.specs.Parts.{InRange, Emits}
+use Rattle.emit_native.specs.Parts.{InRange}
 
 abbrev pub by_class : ℕ → ℕ → Decoded32 → Class → Emission
 by_class pc instr d Load = none []
@@ -71,10 +70,21 @@ module _ (pc instr : ℕ) where
   in_class : (d : Decoded32) (c : Class) → d ≡ decode32 instr → c ≡ class_of (instr % 128) → emit_native_instr pc instr d ≡ by_class pc instr d c
   in_class d c e f = rw (f, e) (by_class_is (decode32 instr) (instr % 128))
 
-  -- what is emitted in the arm of a class k is what is emitted for the word
-  pub in_arm : (d : Decoded32) {c k : Class} → d ≡ decode32 instr → c ≡ class_of (instr % 128) → c ≡ k → {slot_offset : ℕ} {h : List ℕ} {r : Emitted} {l : List ℕ}
-      → Emits slot_offset h (by_class pc instr d k) r l → Emits slot_offset h (emit_native_instr pc instr d) r l
-  in_arm d e f g a = rw (in_class d _ e f, g) a
+  -- what is emitted for the word is what is emitted in the arm of its class k
+  pub in_arm : (d : Decoded32) {c k : Class} → d ≡ decode32 instr → c ≡ class_of (instr % 128) → c ≡ k → emit_native_instr pc instr d ≡ by_class pc instr d k
+  in_arm d e f g = rw (in_class d _ e f, g) refl
+
+  -- nothing is, in the other arms
+  pub refused : (d : Decoded32) {c : Class} → d ≡ decode32 instr → c ≡ class_of (instr % 128)
+      → (c ≡ Load) ⊎ ((c ≡ LoadFp) ⊎ ((c ≡ Store) ⊎ ((c ≡ StoreFp) ⊎ ((c ≡ Amo) ⊎ ((c ≡ System) ⊎ (c ≡ Other))))))
+      → emit_native_instr pc instr d ≡ none []
+  refused d e f (inl g) = in_arm d e f g
+  refused d e f (inr (inl g)) = in_arm d e f g
+  refused d e f (inr (inr (inl g))) = in_arm d e f g
+  refused d e f (inr (inr (inr (inl g)))) = in_arm d e f g
+  refused d e f (inr (inr (inr (inr (inl g))))) = in_arm d e f g
+  refused d e f (inr (inr (inr (inr (inr (inl g)))))) = in_arm d e f g
+  refused d e f (inr (inr (inr (inr (inr (inr g)))))) = in_arm d e f g
 
 -- the registers of a word that was decoded
 pub in_range : (instr : ℕ) (d : Decoded32) → d ≡ decode32 instr → InRange d

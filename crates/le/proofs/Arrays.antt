@@ -20,11 +20,14 @@ low_first (suc k) zero n = rw (div-one n) (rw (low_first k 1 n))
 low_first (suc k) (suc i) n =
     rw (low_first k (suc (suc i)) n, div-div-eq-div-mul n (256 ^ suc i) 256, pow-suc 256 (suc i))
 
+pub low_bytes : (k v : ℕ) → bytes_low_first 0 k v ≡ bytes k v
+low_bytes k v = low_first k 0 v ∙ rw (div-one v)
+
 -- the bytes of v over k of m, as a store
 pub put_low : (k at e : ℕ) (m ys zs : List ℕ) (v : ℕ) → e ≡ at + k → ys ≡ zs → zs ≡ bytes_low_first 0 k v → put_mid at (e - at) m ys ≡ store k m at v
 unfolding store
 put_low k at e m ys zs v h p q =
-    let b : ys ≡ bytes k v = p ∙ q ∙ low_first k 0 v ∙ rw (div-one v) in
+    let b : ys ≡ bytes k v = p ∙ q ∙ low_bytes k v in
     let d : e - at ≡ k = omega arith in
     rw (b, d, drop-drop k at m)
 

@@ -22,6 +22,22 @@ pub trait Number: Copy {
         ensures { s.new ≡ store WIDTH s.old at (value self) };
 }
 
+impl Number for u8 {
+    ghost WIDTH = { 1 };
+
+    const WIDTH: usize = 1;
+
+    ghost value = { λ v. v };
+
+    fn load_at(s: &[u8], at: usize) -> u8 {
+        s[at]
+    }
+
+    fn store_at(self, s: &mut [u8], at: usize) {
+        s[at] = self;
+    }
+}
+
 impl Number for u16 {
     ghost WIDTH = { 2 };
 

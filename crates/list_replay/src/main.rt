@@ -3,7 +3,6 @@
 
 use listing::Listed;
 use std::io;
-use std::rt::Files;
 
 // Every byte of an output before List; no line has it.
 const FILL: u8 = 0xA5;
@@ -125,20 +124,12 @@ fn replay_case(file: &mut &[u8]) -> bool {
 // "A64LISTS"
 const MAGIC: u64 = 0x5354_5349_4c34_3641;
 
-// Replays the file's cases and says how many there were and how many differ.
-// A file that goes on after them differs too.
-fn replay_file(rt: &(impl Files + Print + Eprint + AllocGlobal), path: &str) -> io::Result<()> {
-    let Some(bytes) = replay::open(rt, path)? else {
-        return Ok(());
-    };
-    let mut file = bytes.as_slice();
-    let mut tally = replay::read_header(&mut file, MAGIC);
-    while tally.left > 0 {
-        tally = replay::counted(tally, replay::outcome_of(replay_case(&mut file)));
-    }
-    replay::report(rt, file, tally, " cases, ")
-}
-
 fn main(rt: HostRuntime) -> io::Result<()> {
-    replay_file(&rt, "lists.bin")
+    replay::replay_file(
+        &rt,
+        "lists.bin",
+        Some(MAGIC),
+        " cases, ",
+        |file| Some(replay_case(file)),
+    )
 }

@@ -1,9 +1,8 @@
 // What the programs share that replay recorded cases: reading a file of them, counting, and the report.
 #![tactic(auto)]
 
-ghost use Rattle.std.specs.Prelude.{◌≡◌, ◌≢◌, ◌+◌, ◌-◌, ◌%◌, ◌^◌, ◌<◌, ◌≤◌, ◌++◌, ◌↔◌, min, length, take, drop, slice_index, IsTrue, if◌then◌else◌};
+ghost use Rattle.std.specs.Prelude.{◌≡◌, ◌≢◌, ◌+◌, ◌%◌, ◌^◌, ◌<◌, ◌≤◌, ◌++◌, min, length, take, drop, slice_index, if◌then◌else◌};
 ghost use Rattle.le.specs.Le.{load};
-ghost use Rattle.replay.specs.declared.Outcome.{Outcome};
 
 use std::fs::File;
 use std::io;
@@ -12,10 +11,8 @@ use std::rt::Files;
 
 // The system's words for an error, without the number that its text ends in.
 fn words_of(text: &str) -> &str {
-    match text.split_once(" (os error ") {
-        Some((words, _)) => words,
-        None => text,
-    }
+    text.split_once(" (os error ")
+        .map_or(text, |(words, _)| words)
 }
 
 // The file's bytes; none where it cannot be opened, which is then said on standard error.
@@ -86,17 +83,14 @@ pub fn read_size(file: &mut &[u8], most: usize) -> usize
 
 // ---- registers
 
-fn put(x: &mut [u64], n: usize, value: u64) {
-    if n < x.len() {
-        x[n] = value;
-    }
-}
-
 // Pairs of a register and its value, over x.
 pub fn read_registers(file: &mut &[u8], x: &mut [u64]) {
     for _ in 0..read_byte(file) {
         let n = read_byte(file) as usize;
-        put(x, n, read_number(file));
+        let value = read_number(file);
+        if let Some(register) = x.get_mut(n) {
+            *register = value;
+        }
     }
 }
 
@@ -109,94 +103,60 @@ pub fn unnamed(x: &mut [u64]) {
     }
 }
 
-pub fn same_registers(x: &[u64], y: &[u64]) -> bool
-    ensures { IsTrue result ↔ (x.now ≡ y.now) }
-{
-    x == y
-}
-
 // ---- counting
 
-#[derive(Clone, Copy)]
-pub enum Outcome {
-    Equal,
-    Differs,
-    // the file has ended
-    End,
-}
-
-pub fn outcome_of(equal: bool) -> Outcome
-    ensures { result ≡ (if equal then Outcome.Equal else Outcome.Differs) }
-{
-    if equal {
-        Outcome::Equal
-    } else {
-        Outcome::Differs
-    }
-}
-
-#[derive(Clone, Copy)]
+// How many cases there were, and how many of them differ.
+#[derive(Clone, Copy, PartialEq, Eq, Debug, Default)]
 pub struct Tally {
-    // how many cases are yet to come, at most
-    pub left: u32,
     pub cases: u32,
     pub wrong: u32,
 }
 
-pub fn tally_of(left: u32) -> Tally
-    ensures left { result.left ≡ left }
-    ensures cases { result.cases ≡ 0 }
-    ensures wrong { result.wrong ≡ 0 }
-{
-    Tally {
-        left,
-        cases: 0,
-        wrong: 0,
+impl Tally {
+    // One case more.
+    pub fn count(&mut self, equal: bool)
+        ensures cases { self.new.cases ≡ (self.old.cases + 1) % 2 ^ 32 }
+        ensures wrong { self.new.wrong ≡ (if equal then self.old.wrong else (self.old.wrong + 1) % 2 ^ 32) }
+    {
+        self.cases = self.cases.wrapping_add(1);
+        if !equal {
+            self.wrong = self.wrong.wrapping_add(1);
+        }
     }
 }
 
 // How many cases the file has, by its header; none where that begins with another number.
-pub fn read_header(file: &mut &[u8], magic: u64) -> Tally
-    ensures other { 8 ≤ length file.old.now → load 8 file.old.now 0 ≢ magic → result.left ≡ 0 }
-    ensures left { 12 ≤ length file.old.now → load 8 file.old.now 0 ≡ magic → result.left ≡ load 4 file.old.now 8 }
-    ensures cases { result.cases ≡ 0 }
-    ensures wrong { result.wrong ≡ 0 }
+pub fn read_header(file: &mut &[u8], magic: u64) -> u32
+    ensures other { 8 ≤ length file.old.now → load 8 file.old.now 0 ≢ magic → result ≡ 0 }
+    ensures cases { 12 ≤ length file.old.now → load 8 file.old.now 0 ≡ magic → result ≡ load 4 file.old.now 8 }
     ensures rest { file.new.now ≡ drop 12 file.old.now }
 {
     let mut header = [0; 12];
     read_full(file, &mut header);
     if le::load::<u64>(&header, 0) != magic {
-        return tally_of(0);
+        return 0;
     }
-    tally_of(le::load::<u32>(&header, 8))
+    le::load(&header, 8)
 }
 
-fn one_less(n: u32) -> u32
-    ensures { result ≡ n - 1 }
+// Replays cases, `most` of them or up to the file's end: a case says whether it is as recorded, or that there is none.
+pub fn replay_cases<F: FnMut(&mut &[u8]) -> Option<bool>>(
+    file: &mut &[u8],
+    most: u32,
+    mut replay_case: F,
+) -> Tally
+    requires { F.IsAlwaysCallable replay_case }
+    ensures most { result.cases ≤ most }
+    ensures wrong { result.wrong ≤ result.cases }
 {
-    n.saturating_sub(1)
-}
-
-// The tally after one case more.
-pub fn counted(tally: Tally, outcome: Outcome) -> Tally
-    ensures left { result.left ≤ tally.left - 1 }
-    ensures cases { outcome ≢ Outcome.End → result.cases ≡ (tally.cases + 1) % 2 ^ 32 }
-    ensures equal { outcome ≡ Outcome.Equal → result.wrong ≡ tally.wrong }
-    ensures differs { outcome ≡ Outcome.Differs → result.wrong ≡ (tally.wrong + 1) % 2 ^ 32 }
-    ensures end { outcome ≡ Outcome.End → result ≡ record tally { left = 0 } }
-{
-    let left = one_less(tally.left);
-    let cases = tally.cases.wrapping_add(1);
-    let wrong = tally.wrong;
-    match outcome {
-        Outcome::Equal => Tally { left, cases, wrong },
-        Outcome::Differs => Tally {
-            left,
-            cases,
-            wrong: wrong.wrapping_add(1),
-        },
-        Outcome::End => Tally { left: 0, ..tally },
+    let mut tally = Tally::default();
+    for _ in 0..most {
+        let Some(equal) = replay_case(file) else {
+            break;
+        };
+        tally.count(equal);
     }
+    tally
 }
 
 // Says how many there were, by this name, and how many differ, and whether the file goes on after them.
@@ -206,4 +166,27 @@ pub fn report(rt: &impl Print, rest: &[u8], tally: Tally, name: &str) -> io::Res
         println!(rt; "more bytes after them")?;
     }
     Ok(())
+}
+
+// Replays a file's cases and says how many there were and how many differ. Where it has no header, they go on to its end.
+// A file that goes on after them differs too.
+pub fn replay_file<F: FnMut(&mut &[u8]) -> Option<bool>>(
+    rt: &(impl Files + Print + Eprint + AllocGlobal),
+    path: &str,
+    magic: Option<u64>,
+    name: &str,
+    replay_case: F,
+) -> io::Result<()>
+    requires { F.IsAlwaysCallable replay_case }
+{
+    let Some(bytes) = open(rt, path)? else {
+        return Ok(());
+    };
+    let mut file = bytes.as_slice();
+    let most = match magic {
+        Some(magic) => read_header(&mut file, magic),
+        None => u32::MAX,
+    };
+    let tally = replay_cases(&mut file, most, replay_case);
+    report(rt, file, tally, name)
 }

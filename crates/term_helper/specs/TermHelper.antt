@@ -1,6 +1,5 @@
 -- `emit_native_term_helper16` and `emit_native_term_helper32`: `true` is Terminate, `false` None.
-use Rattle.std.specs.Prelude.{ℕ, Bool, false, cond, ◌||◌, List, [], ◌∷◌, ◌++◌, eqb}
-use Rattle.std.proofs.Math.Option.{Option, none, some}
+use Rattle.std.specs.Prelude.{ℕ, Bool, false, cond, ◌||◌, List, [], ◌∷◌, ◌++◌, eqb, Option, Some, None}
 use Rattle.isa.specs.declared.decode.Decoded32.{Decoded32}
 use Rattle.emit_native.specs.declared.Host.{Host}
 use Rattle.isa.specs.Isa.{OPCODE_LOAD, OPCODE_STORE, OPCODE_LOAD_FP, OPCODE_STORE_FP, OPCODE_SYSTEM, OPCODE_AMO, F3_LB, F3_LH, F3_LW, F3_LD, F3_LBU, F3_LHU, F3_LWU, F3_SB, F3_SH, F3_SW, F3_SD}
@@ -36,22 +35,22 @@ call_exec helper pc instr prefix_count =
 
 unfoldable pub load_op : ℕ → Option ℕ
 load_op funct3 =
-    cond (eqb funct3 F3_LB) (some MEM_OP_LB)
-    (cond (eqb funct3 F3_LH) (some MEM_OP_LH)
-    (cond (eqb funct3 F3_LW) (some MEM_OP_LW)
-    (cond (eqb funct3 F3_LD) (some MEM_OP_LD)
-    (cond (eqb funct3 F3_LBU) (some MEM_OP_LBU)
-    (cond (eqb funct3 F3_LHU) (some MEM_OP_LHU)
-    (cond (eqb funct3 F3_LWU) (some MEM_OP_LWU)
-    none))))))
+    cond (eqb funct3 F3_LB) (Some MEM_OP_LB)
+    (cond (eqb funct3 F3_LH) (Some MEM_OP_LH)
+    (cond (eqb funct3 F3_LW) (Some MEM_OP_LW)
+    (cond (eqb funct3 F3_LD) (Some MEM_OP_LD)
+    (cond (eqb funct3 F3_LBU) (Some MEM_OP_LBU)
+    (cond (eqb funct3 F3_LHU) (Some MEM_OP_LHU)
+    (cond (eqb funct3 F3_LWU) (Some MEM_OP_LWU)
+    None))))))
 
 unfoldable pub store_op : ℕ → Option ℕ
 store_op funct3 =
-    cond (eqb funct3 F3_SB) (some MEM_OP_SB)
-    (cond (eqb funct3 F3_SH) (some MEM_OP_SH)
-    (cond (eqb funct3 F3_SW) (some MEM_OP_SW)
-    (cond (eqb funct3 F3_SD) (some MEM_OP_SD)
-    none)))
+    cond (eqb funct3 F3_SB) (Some MEM_OP_SB)
+    (cond (eqb funct3 F3_SH) (Some MEM_OP_SH)
+    (cond (eqb funct3 F3_SW) (Some MEM_OP_SW)
+    (cond (eqb funct3 F3_SD) (Some MEM_OP_SD)
+    None)))
 
 -- the calls of a load and of a store: `is_store` is false and true
 abbrev pub load_calls : ℕ → ℕ → ℕ → ℕ → Decoded32 → ℕ → List Call
@@ -86,12 +85,12 @@ store_calls helper mem_op pc instr d prefix_count =
     ∷ call_helper helper prefix_count
 
 abbrev pub with_load : Host → ℕ → ℕ → Decoded32 → ℕ → Option ℕ → Emission
-with_load h pc instr d prefix_count none = Calls.none []
-with_load h pc instr d prefix_count (some mem_op) = terminate (load_calls h.memory_helper mem_op pc instr d prefix_count)
+with_load h pc instr d prefix_count None = Calls.none []
+with_load h pc instr d prefix_count (Some mem_op) = terminate (load_calls h.memory_helper mem_op pc instr d prefix_count)
 
 abbrev pub with_store : Host → ℕ → ℕ → Decoded32 → ℕ → Option ℕ → Emission
-with_store h pc instr d prefix_count none = Calls.none []
-with_store h pc instr d prefix_count (some mem_op) = terminate (store_calls h.memory_helper mem_op pc instr d prefix_count)
+with_store h pc instr d prefix_count None = Calls.none []
+with_store h pc instr d prefix_count (Some mem_op) = terminate (store_calls h.memory_helper mem_op pc instr d prefix_count)
 
 unfoldable pub load_helper : Host → ℕ → ℕ → Decoded32 → ℕ → ℕ → Emission
 load_helper h pc instr d prefix_count funct3 = with_load h pc instr d prefix_count (load_op funct3)

@@ -1,15 +1,11 @@
 // The operands of a Zbb instruction, and its result.
-ghost use Rattle.std.specs.Prelude.{◌≡◌, [], ◌∷◌, ◌<◌, ◌≤◌};
-ghost use Rattle.rules.specs.Limits.{max_slot_offset};
-ghost use Rattle.a64_emitter.specs.Parts.{InstrArray, Adds};
+ghost use Rattle.std.specs.Prelude.{◌≡◌, [], ◌∷◌, ◌<◌};
 ghost use Rattle.isa.specs.Formats as F;
-ghost use Rattle.emit_native.specs.Calls.{load, mov_imm64, groups};
-ghost use Rattle.zbb.specs.Parts.{operands, operand, Finishes};
+ghost use Rattle.emit_native.specs.Calls.{load, mov_imm64, continue, then_store_rd};
+ghost use Rattle.emit_native.specs.Parts.{held, after, answer, emitted};
+ghost use Rattle.zbb.specs.Parts.{operands, operand};
 
-use a64_emitter::InstrEmitter;
-use emit_native::Emitted;
-use emit_native::calls::{go_on, load, load_both, store_rd};
-use rules::INSTR_WORDS;
+use emit_native::{Emitted, InstrEmitter};
 
 fn rd(instr: u32) -> u8
     ensures { (result ≡ F.rd instr) × (result < 32) }
@@ -30,54 +26,29 @@ fn rs2(instr: u32) -> u8
 }
 
 // rs1 and rs2 into X9 and X10.
-pub fn load_two(
-    em: InstrEmitter,
-    words: &mut [u32; INSTR_WORDS],
-    slot_offset: u64,
-    instr: u32,
-) -> InstrEmitter
-    requires { (slot_offset ≤ max_slot_offset) × InstrArray words.old }
-    ensures { Adds em words.old result words.new (groups slot_offset (operands instr)) }
+pub fn load_two(em: InstrEmitter<'_>, instr: u32) -> InstrEmitter<'_>
+    ensures { held result ≡ after (held em.entry) (operands instr) }
 {
-    load_both(em, words, slot_offset, rs1(instr), rs2(instr))
+    em.load_both(rs1(instr), rs2(instr))
 }
 
 // rs1 into X9.
-pub fn load_one(
-    em: InstrEmitter,
-    words: &mut [u32; INSTR_WORDS],
-    slot_offset: u64,
-    instr: u32,
-) -> InstrEmitter
-    requires { (slot_offset ≤ max_slot_offset) × InstrArray words.old }
-    ensures { Adds em words.old result words.new (groups slot_offset (operand instr)) }
+pub fn load_one(em: InstrEmitter<'_>, instr: u32) -> InstrEmitter<'_>
+    ensures { held result ≡ after (held em.entry) (operand instr) }
 {
-    load(em, words, slot_offset, 9, rs1(instr))
+    em.load(9, rs1(instr))
 }
 
 // rs1 and a number into X9 and X10.
-pub fn load_number(
-    em: InstrEmitter,
-    words: &mut [u32; INSTR_WORDS],
-    slot_offset: u64,
-    instr: u32,
-    n: u64,
-) -> InstrEmitter
-    requires { (slot_offset ≤ max_slot_offset) × InstrArray words.old }
-    ensures { Adds em words.old result words.new (groups slot_offset (load 9 (F.rs1 instr) ∷ mov_imm64 10 n ∷ [])) }
+pub fn load_number(em: InstrEmitter<'_>, instr: u32, n: u64) -> InstrEmitter<'_>
+    ensures { held result ≡ after (held em.entry) (load 9 (F.rs1 instr) ∷ mov_imm64 10 n ∷ []) }
 {
-    load_one(em, words, slot_offset, instr).mov_imm64(words, 10, n)
+    load_one(em, instr).mov_imm64(10, n)
 }
 
 // X11 into rd.
-pub fn finish(
-    em: InstrEmitter,
-    words: &mut [u32; INSTR_WORDS],
-    slot_offset: u64,
-    instr: u32,
-) -> Emitted
-    requires { (slot_offset ≤ max_slot_offset) × InstrArray words.old }
-    ensures { Finishes slot_offset em words.old instr result words.new }
+pub fn finish(em: InstrEmitter<'_>, instr: u32) -> Emitted<'_>
+    ensures { answer result ≡ emitted (held em.entry) (then_store_rd (F.rd instr) (continue [])) }
 {
-    store_rd(go_on(em), words, slot_offset, rd(instr))
+    em.go_on().store_rd(rd(instr))
 }

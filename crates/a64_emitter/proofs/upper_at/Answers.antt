@@ -1,9 +1,9 @@
-use mathlib.Core.Path.{refl, sym}
+use mathlib.Core.Path.{sym}
 use Rattle.a64_emitter.proofs.Emission.{movk-none, movk-some, emitted-none}
 use Rattle.a64_emitter.proofs.upper_at.Goals as goal
 
 pub returns-then-p-eq0 : goal.returns-then-p-eq0
-returns-then-p-eq0 c = record { long = refl; holds = rw (movk-none _ _ _ c.if-p-eq0.true) (sym (emitted-none _ _)); room = λ h. h }
+returns-then-p-eq0 c = record { holds = rw (movk-none _ _ _ c.if-p-eq0.true) (sym (emitted-none _ _)); room = λ h. h }
 
-pub returns-else-p-eq0 : goal.returns-else-p-eq0
-returns-else-p-eq0 c = rw (movk-some _ _ _ c.if-p-eq0.false) c.emit_at.ensures
+pub returns : goal.returns
+returns c = rw (movk-some _ _ _ c.if-p-eq0.false) c.emit_at.ensures

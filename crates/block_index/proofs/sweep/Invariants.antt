@@ -1,15 +1,10 @@
-use Prim.Native.Nat.{◌<◌}
-use mathlib.Core.Path.{◌≡◌}
-use lib.ListN.{length}
-use Rattle.block_log.specs.Log.{index_bytes, slots, used}
+use Rattle.std.proofs.Common.{◌≡◌, ◌<◌}
+use Rattle.block_log.specs.Log.{used, slots}
 use Rattle.block_index.specs.Index.{swept, room_left}
 use Rattle.block_index.proofs.sweep.Given as goal
 
 -- the sweep from here ends as the whole does
 abbrev pub invariant-loop-p : goal.invariant-loop-p
 invariant-loop-p l =
-    (length l.m ≡ index_bytes) × (l.p < slots)
-    × (swept l.m l.e l.room l.p ≡ swept l.initial.m l.e l.room-2 (used l.initial.m)) × (room_left l.m l.e l.room l.p ≡ room_left l.initial.m l.e l.room-2 (used l.initial.m))
-
-abbrev pub decreases-loop-p : goal.decreases-loop-p
-decreases-loop-p l = l.p
+    (l.p < slots) × (swept l.m l.e l.room l.p ≡ swept l.initial.m l.e l.room-2 (used l.initial.m))
+    × (room_left l.m l.e l.room l.p ≡ room_left l.initial.m l.e l.room-2 (used l.initial.m))

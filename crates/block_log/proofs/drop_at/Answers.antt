@@ -5,8 +5,8 @@ pub returns : goal.returns
 unfolding dropped
 returns c = rw (
   c.store.ensures,
+  c.at.ensures,
   c.unlink.ensures,
-  c.bucket-b.ensures.0,
-  c.pc_at.ensures,
-  c.space_at.ensures,
+  c.bucket.ensures.0,
+  c.entry_at-e.ensures,
 )

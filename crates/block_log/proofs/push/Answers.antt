@@ -7,7 +7,7 @@ returns c = rw (
   c.store-2.ensures,
   c.store.ensures,
   c.put.ensures,
-  c.cell-next.ensures.0,
+  c.cell-next.ensures,
   c.bucket-b.ensures.0,
-  c.used.ensures.0,
+  c.used.ensures,
 )

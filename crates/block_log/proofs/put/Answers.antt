@@ -4,10 +4,11 @@ use Rattle.block_log.proofs.put.Goals as goal
 pub returns : goal.returns
 unfolding put
 returns c = rw (
-  c.put_count.ensures,
+  c.store-6.ensures,
   c.store-5.ensures,
   c.store-4.ensures,
   c.store-3.ensures,
   c.store-2.ensures,
   c.store.ensures,
+  c.at-at.ensures,
 )

@@ -1,27 +1,10 @@
-use lib.ListN.{length, take, drop}
-use native.Mathlib.Omega.{arith}
-use borrow.Author.Rules.{rules}
-use Prim.Native.Nat.{ℕ, ◌+◌, ◌-◌}
-use mathlib.Core.Path.{◌≡◌}
-use mathlib.Core.List.{List, append_assoc}
-use native.Mathlib.Numerals.{add-one}
-use lib.Seq.{paste, paste-suc, take-length}
+use Rattle.std.proofs.Common.{arith, ◌≡◌, ◌+◌, ◌-◌, length}
 use Rattle.le.specs.Le.{splice}
+use lib.Seq.{drop-drop}
 use Rattle.code_cache.proofs.copy.Goals as goal
 
--- all of the code
-whole : (m : List ℕ) (at : ℕ) (s : List ℕ) → paste m at s (length s) ≡ splice m at s
-unfolding splice
-whole m at s = rw (take-length s) (append_assoc (take at m) s (drop (at + length s) m))
-
-pub loop-i-preserved : goal.loop-i-preserved
-loop-i-preserved c = let a = c.args in
-    let l = c.loop-i in
-    let e = paste-suc a.store.now a.at a.code.now l.i 0 (omega arith) (omega arith) in
-    (search rules, rw (l.invariant.1, e, add-one))
-
 pub returns : goal.returns
+unfolding splice
 returns c = let a = c.args in
-    let l = c.loop-i in
-    let e : l.i ≡ length a.code.now = omega arith in
-    rw (l.invariant.1, e) (whole a.store.now a.at a.code.now)
+    let n : a.at + length a.code.now - a.at ≡ length a.code.now = omega arith in
+    rw (c.copy_from_slice.ensures.after, n, drop-drop)

@@ -3,4 +3,4 @@ use Rattle.fnv1a.proofs.step.Goals as goal
 
 pub returns : goal.returns
 unfolding F.step
-returns c = c.wrapping_mul.ensures
+returns c = rw (c.wrapping_mul.ensures, c.from.ensures)

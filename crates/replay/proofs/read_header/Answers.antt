@@ -2,8 +2,8 @@ use Rattle.std.proofs.Common.{◌∙◌, sym, arith}
 use Rattle.replay.proofs.Filled.{load-filled}
 use Rattle.replay.proofs.read_header.Goals as goal
 
-pub returns-then-load-magic-clause-left : goal.returns-then-load-magic-clause-left
-returns-then-load-magic-clause-left c h is =
+pub returns-then-load-magic-clause-cases : goal.returns-then-load-magic-clause-cases
+returns-then-load-magic-clause-cases c h is =
     let e =
     load-filled
     8
@@ -32,10 +32,9 @@ returns-clause-other c h is =
     c.read_full.ensures.bytes in
     absurd (is (sym e ∙ sym c.load.ensures ∙ c.if-load-magic.false))
 
-pub returns-clause-left : goal.returns-clause-left
-returns-clause-left c h is =
-    c.tally_of-2.ensures.left
-    ∙ c.load-2.ensures
+pub returns-clause-cases : goal.returns-clause-cases
+returns-clause-cases c h is =
+    c.load-2.ensures
     ∙ load-filled
     4
     8

@@ -1,11 +1,6 @@
-use mathlib.Core.Path.{refl}
 use Rattle.term_helper.specs.TermHelper.{emit_native_term_helper16}
 use Rattle.term_helper.proofs.emit_native_term_helper16.Goals as goal
 
 pub returns-then-supports : goal.returns-then-supports
 unfolding emit_native_term_helper16
-returns-then-supports c = (rw (← c.supports.ensures, c.if-supports.true) (c.emit_exec.ensures _))
-
-pub returns : goal.returns
-unfolding emit_native_term_helper16
-returns c = (rw (← c.supports.ensures, c.if-supports.false) (c.none.ensures _ _ _ _ c.requires refl))
+returns-then-supports c = rw (← c.supports.ensures, c.if-supports.true) c.emit_exec.ensures

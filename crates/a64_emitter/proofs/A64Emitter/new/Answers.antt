@@ -1,7 +1,0 @@
-use borrow.Author.Rules.{rules}
-use Rattle.a64_emitter.specs.Parts.{block_words}
-use Rattle.a64_emitter.proofs.A64Emitter.new.Goals as goal
-
-pub returns : goal.returns
-unfolding block_words
-returns c = search rules

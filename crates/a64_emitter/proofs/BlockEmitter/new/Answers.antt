@@ -1,0 +1,7 @@
+use borrow.Author.Rules.{rules}
+use Rattle.a64_emitter.specs.Parts.{block_words}
+use Rattle.a64_emitter.proofs.BlockEmitter.new.Goals as goal
+
+pub returns : goal.returns
+unfolding block_words
+returns g c = search rules

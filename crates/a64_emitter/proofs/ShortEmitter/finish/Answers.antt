@@ -1,6 +1,0 @@
-use Rattle.a64_emitter.specs.Parts.{short_block_words}
-use Rattle.a64_emitter.proofs.ShortEmitter.finish.Goals as goal
-
-pub returns : goal.returns
-unfolding short_block_words
-returns c = c.write_short.ensures

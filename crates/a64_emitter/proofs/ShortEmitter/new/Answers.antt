@@ -1,7 +1,0 @@
-use borrow.Author.Rules.{rules}
-use Rattle.a64_emitter.specs.Parts.{short_block_words}
-use Rattle.a64_emitter.proofs.ShortEmitter.new.Goals as goal
-
-pub returns : goal.returns
-unfolding short_block_words
-returns c = search rules

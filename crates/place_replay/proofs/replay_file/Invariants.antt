@@ -1,4 +1,0 @@
-use Rattle.place_replay.proofs.replay_file.Given as goal
-
-abbrev pub decreases-loop-tally : goal.decreases-loop-tally
-decreases-loop-tally g l = l.tally.left
