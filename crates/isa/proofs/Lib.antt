@@ -1,3 +1,4 @@
 pub mod Decoding
 pub mod Rows
 pub mod ZbbRows
+pub mod Keys

@@ -1,5 +1,5 @@
 // The encodings of Zbb.
-ghost use Rattle.std.specs.Prelude.{◌≡◌};
+ghost use Rattle.std.specs.Prelude.{◌≡◌, ◌≤◌, ◌<◌};
 ghost use Rattle.isa.specs.Zbb as Z;
 
 // What is computed.
@@ -42,21 +42,11 @@ pub enum Found {
     Nothing,
 }
 
-// funct7, funct3 and the opcode, side by side; the same of funct12, and of funct6.
-pub fn funct7_key(w: u32) -> u32
-    ensures { result ≡ Z.key 25 w }
+// The bits from LOW up, funct3 and the opcode, side by side: LOW is 25 for funct7, 20 for funct12 and 26 for funct6.
+#[tactic(auto, using(crate::proofs::Keys::key_bounds))]
+pub fn key<const LOW: u32>(w: u32) -> u32
+    requires { (20 ≤ LOW) × (LOW < 32) }
+    ensures { result ≡ Z.key LOW w }
 {
-    w / 0x200_0000 * 1024 + w / 4096 % 8 * 128 + w % 128
-}
-
-pub fn funct12_key(w: u32) -> u32
-    ensures { result ≡ Z.key 20 w }
-{
-    w / 0x10_0000 * 1024 + w / 4096 % 8 * 128 + w % 128
-}
-
-pub fn funct6_key(w: u32) -> u32
-    ensures { result ≡ Z.key 26 w }
-{
-    w / 0x400_0000 * 1024 + w / 4096 % 8 * 128 + w % 128
+    (w >> LOW) * 1024 + w / 4096 % 8 * 128 + w % 128
 }

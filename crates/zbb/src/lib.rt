@@ -68,7 +68,7 @@ pub fn emit_native_zbb(em: InstrEmitter<'_>, instr: u32) -> Emitted<'_>
     ensures emits { answer result ≡ emitted (held em.entry) (emission (find instr) instr) }
     ensures words_unchanged { result.flow ≡ None → result.em.words.now ≡ em.entry.words.now }
 {
-    match isa::zbb::funct7_key(instr) {
+    match isa::zbb::key::<25>(instr) {
         // ANDN, ORN, XNOR
         0b0100000_111_0110011 => one(em, instr, A64Emitter::bic_x(11, 9, 10)),
         0b0100000_110_0110011 => one(em, instr, A64Emitter::orn_x(11, 9, 10)),

@@ -30,7 +30,7 @@ pub fn emit_rori(em: InstrEmitter<'_>, instr: u32) -> Emitted<'_>
     ensures emits { answer result ≡ emitted (held em.entry) (emission (shift_of instr) instr) }
     ensures words_unchanged { result.flow ≡ None → result.em.words.now ≡ em.entry.words.now }
 {
-    if isa::zbb::funct6_key(instr) != 0b011000_101_0010011 {
+    if isa::zbb::key::<26>(instr) != 0b011000_101_0010011 {
         return em.none();
     }
     let n = (instr / 0x10_0000 % 64) as u64;

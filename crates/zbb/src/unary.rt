@@ -120,7 +120,7 @@ pub fn emit_unary(em: InstrEmitter<'_>, instr: u32) -> Emitted<'_>
     ensures emits { answer result ≡ emitted (held em.entry) (emission (unary_of instr) instr) }
     ensures words_unchanged { result.flow ≡ None → result.em.words.now ≡ em.entry.words.now }
 {
-    match isa::zbb::funct12_key(instr) {
+    match isa::zbb::key::<20>(instr) {
         // CLZ, CTZ, CPOP
         0b011000000000_001_0010011 => {
             let w = A64Emitter::clz_x(11, 9);

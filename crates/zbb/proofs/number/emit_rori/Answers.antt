@@ -6,10 +6,10 @@ use Rattle.isa.specs.Zbb.{shifts, shift_of}
 use Rattle.zbb.proofs.Taken.{taken}
 use Rattle.zbb.proofs.number.emit_rori.Goals as goal
 
-pub returns-then-funct6_key-ne25235 : goal.returns-then-funct6_key-ne25235
+pub returns-then-key-ne25235 : goal.returns-then-key-ne25235
 unfolding emission shifts shift_of
-returns-then-funct6_key-ne25235 c = record { emits = rw (← c.funct6_key.ensures, ne_eqb _ _ c.if-funct6_key-ne25235.true) c.none.ensures.answers; words_unchanged = λ _. c.none.ensures.words_unchanged }
+returns-then-key-ne25235 c = record { emits = rw (← c.key.ensures, ne_eqb _ _ c.if-key-ne25235.true) c.none.ensures.answers; words_unchanged = λ _. c.none.ensures.words_unchanged }
 
 pub returns : goal.returns
 unfolding zbb_body emission shifts shift_of
-returns c = record { emits = rw (← c.funct6_key.ensures, c.if-funct6_key-ne25235.false, c.finish.ensures, c.emit-em.ensures, c.rorv_x.ensures, c.load_number.ensures); words_unchanged = taken _ c.finish.ensures refl }
+returns c = record { emits = rw (← c.key.ensures, c.if-key-ne25235.false, c.finish.ensures, c.emit-em.ensures, c.rorv_x.ensures, c.load_number.ensures); words_unchanged = taken _ c.finish.ensures refl }
