@@ -3,12 +3,13 @@
 #![tactic(auto)]
 
 use emit_native::Host;
+use rules::refusals::Refusal;
 use std::io;
 use std::rt::Files;
-use translator::Answer;
+use translator::Translated;
 
 // Translates as the case says; `asked` is what the file has between the guest bytes and the answer.
-fn ask(guest: &[u8], asked: &[u8; 49], output: &mut [u8]) -> Answer {
+fn ask(guest: &[u8], asked: &[u8; 49], output: &mut [u8]) -> Result<Translated, Refusal> {
     let host = Host {
         slot_offset: le::load::<u64>(asked, 13),
         memory_helper: le::load::<u64>(asked, 21),
@@ -25,16 +26,16 @@ fn ask(guest: &[u8], asked: &[u8; 49], output: &mut [u8]) -> Answer {
     )
 }
 
-fn wide(b: u8) -> u32 {
-    b as u32
-}
-
 // Whether the recorded answer is this one; `found` is what the file has between the question and the words.
-fn same_answer(answer: Answer, found: &[u8; 5]) -> bool {
-    answer.refusal == wide(found[0])
-        && answer.end == wide(found[1])
-        && answer.count == wide(found[2])
-        && answer.length == 4 * (le::load::<u16>(found, 3) as u32)
+fn same_answer(answer: Result<Translated, Refusal>, found: &[u8; 5]) -> bool {
+    let (refusal, end, count, length) = match answer {
+        Ok(block) => (0, u32::from(block.end), block.count, block.length),
+        Err(refusal) => (u32::from(refusal), 0, 0, 0),
+    };
+    refusal == u32::from(found[0])
+        && end == u32::from(found[1])
+        && count == u32::from(found[2])
+        && length == 4 * u32::from(le::load::<u16>(found, 3))
 }
 
 // Compares refusal, end kind, count, length and every byte of the output.

@@ -1,6 +1,6 @@
 -- Emitters that call one another. Assumes nothing.
 use Prim.Native.Nat.{ℕ}
-use mathlib.Core.Path.{◌≡◌, refl, ap, ◌∙◌}
+use mathlib.Core.Path.{◌≡◌, refl}
 use mathlib.Core.Bool.{Bool, true, false}
 use mathlib.Core.List.{List, [], ◌∷◌, ◌++◌}
 use lib.Dec.{eqb}
@@ -9,20 +9,15 @@ use Rattle.rules.specs.Limits.{instr_words}
 use Rattle.a64_emitter.specs.Writers.{str_x}
 use Rattle.a64_emitter.specs.Parts.{emitted_in, emitted_if, in_turn}
 use Rattle.a64_emitter.proofs.Emission.{emitted-none}
-use Rattle.emit_native.specs.declared.EmitFlow.{EmitFlow}
 use Rattle.emit_native.specs.declared.EmitFlow.TheVariants.{Continue, Terminate}
-use Rattle.emit_native.specs.Calls.{Call, groups, reg_off, store_rd, Emission, calls_first, then_store_rd}
-use Rattle.emit_native.specs.Parts.{Held, Answer, after, emit_if, emitted, stores, stored}
+use Rattle.emit_native.specs.Calls.{Call, Flow, groups, reg_off, store_rd, Emission, calls_first, then_store_rd}
+use Rattle.emit_native.specs.Parts.{Held, after, emit_if, emitted, stores, stored}
 use Rattle.emit_native.proofs.Size.{by}
 
 -- calls after calls
 pub after_append : (h : Held) (cs ds : List Call) → after h (cs ++ ds) ≡ after (after h cs) ds
 after_append h [] ds = refl
 after_append h (c ∷ cs) ds = after_append (after h (c ∷ [])) cs ds
-
--- an answer from what is held, by another name
-pub from : {h h' : Held} (e : Emission) {r : Answer} → h ≡ h' → r ≡ emitted h e → r ≡ emitted h' e
-from e q a = a ∙ ap (λ (h : Held). emitted h e) q
 
 -- calls, and then what a match answers
 pub first : (h : Held) (cs : List Call) (e : Emission) → emitted (after h cs) e ≡ emitted h (calls_first cs e)
@@ -38,13 +33,13 @@ unfolding emitted_if
 asked h true w = refl
 asked h false w = rw (emitted-none instr_words h.words) refl
 
--- the words that are then held, by groups
-pub after_words : (h : Held) (cs : List Call) → (after h cs).words ≡ in_turn instr_words h.words (groups h.slot_offset cs)
-after_words h [] = refl
-after_words h (c ∷ cs) = after_words (after h (c ∷ [])) cs
+-- what is then held, by groups
+pub after_is : (h : Held) (cs : List Call) → after h cs ≡ record { words = in_turn instr_words h.words (groups h.slot_offset cs); slot_offset = h.slot_offset }
+after_is h [] = refl
+after_is h (c ∷ cs) = after_is (after h (c ∷ [])) cs
 
 -- the store after a match, by its test
-pub asked_store : (h : Held) (f : Option EmitFlow) (rd : ℕ)
+pub asked_store : (h : Held) (f : Flow) (rd : ℕ)
     → after h (emit_if (stores f rd) (str_x 11 0 (reg_off h.slot_offset rd))) ≡ after h (store_rd f rd)
 unfolding stores store_rd
 asked_store h (Some Continue) rd = by (eqb rd 0) (λ t. rw t refl) (λ t. rw t refl)

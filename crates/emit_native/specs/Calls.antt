@@ -57,9 +57,13 @@ if_not_0 n cs = cond (eqb n 0) [] cs
 
 -- ---- the calls that an emitter makes, and what it answers: `None` leaves the calls made before it
 
+-- a flow, or none
+abbrev pub Flow : Type 0
+Flow = Option EmitFlow
+
 pub record Emission : Type 0 where
   pub calls : List Call
-  pub flow : Option EmitFlow
+  pub flow : Flow
 
 abbrev pub continue : List Call → Emission
 continue cs = record { calls = cs; flow = Some Continue }
@@ -75,7 +79,7 @@ abbrev pub calls_first : List Call → Emission → Emission
 calls_first cs e = record { calls = cs ++ e.calls; flow = e.flow }
 
 -- `store_rd(em, rd)` after a match, which a `return None` passes by
-unfoldable pub store_rd : Option EmitFlow → ℕ → List Call
+unfoldable pub store_rd : Flow → ℕ → List Call
 store_rd (Some Continue) rd = if_not_0 rd (store 11 rd ∷ [])
 store_rd (Some Terminate) rd = []
 store_rd None rd = []

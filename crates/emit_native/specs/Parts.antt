@@ -1,13 +1,12 @@
 -- What the functions of this crate promise one another; no operation's contract reaches it.
-use Rattle.std.specs.Prelude.{ℕ, ◌<◌, Bool, false, cond, not, List, [], ◌∷◌, take, eqb, Option, Some, None}
+use Rattle.std.specs.Prelude.{ℕ, ◌<◌, Bool, false, cond, not, List, [], ◌∷◌, take, eqb, Some, None}
 use Rattle.rules.specs.Limits.{instr_words}
 use Rattle.isa.specs.declared.decode.Decoded32.{Decoded32}
 use Rattle.a64_emitter.specs.Parts.{emitted_in}
 use Rattle.emit_native.specs.declared.InstrEmitter.{InstrEmitter}
-use Rattle.emit_native.specs.declared.EmitFlow.{EmitFlow}
 use Rattle.emit_native.specs.declared.EmitFlow.TheVariants.{Continue, Terminate}
 use Rattle.emit_native.specs.declared.Emitted.{Emitted}
-use Rattle.emit_native.specs.Calls.{Call, emit, call_words, product, Emission, store_rd}
+use Rattle.emit_native.specs.Calls.{Call, Flow, emit, call_words, product, Emission, store_rd}
 
 -- the registers of an instruction
 abbrev pub InRange : Decoded32 → Type 0
@@ -40,7 +39,7 @@ emit_if test w = cond test (emit w ∷ []) []
 
 pub record Answer : Type 0 where
   pub held : Held
-  pub flow : Option EmitFlow
+  pub flow : Flow
 
 unfoldable pub answer : Emitted → Answer
 answer r = record { held = held r.em; flow = r.flow }
@@ -50,7 +49,7 @@ abbrev pub emitted : Held → Emission → Answer
 emitted h e = record { held = after h e.calls; flow = e.flow }
 
 -- whether `store_rd` writes a word: a `return None` passes it by, and register 0 has none
-unfoldable pub stores : Option EmitFlow → ℕ → Bool
+unfoldable pub stores : Flow → ℕ → Bool
 stores (Some Continue) rd = not (eqb rd 0)
 stores (Some Terminate) rd = false
 stores None rd = false

@@ -1,7 +1,8 @@
 // Calls of the emitter.
-ghost use Rattle.std.specs.Prelude.{◌≡◌, [], ◌∷◌, ◌<◌, ◌≤◌, Some, None};
-ghost use Rattle.rules.specs.Limits.{max_slot_offset};
-ghost use Rattle.emit_native.specs.Calls.{Call, Dialect, load_word, reg_off, if_not_0, continue, terminate, none, then_store_rd};
+ghost use Rattle.std.specs.Prelude.{◌≡◌, [], ◌∷◌, ◌+◌, ◌<◌, ◌≤◌, length};
+ghost use Rattle.rules.specs.Limits.{instr_words, max_slot_offset};
+ghost use Rattle.a64_emitter.specs.Parts.{Added};
+ghost use Rattle.emit_native.specs.Calls.{Call, Dialect, load_word, reg_off, if_not_0, continue, terminate, none};
 ghost use Rattle.emit_native.specs.Parts.{held, nothing, after, emit_if, answer, emitted, stores, stored};
 
 use crate::{EmitFlow, Emitted, InstrEmitter};
@@ -118,6 +119,18 @@ impl<'a> InstrEmitter<'a> {
         ensures { held result ≡ after (held self.entry) (Call.load 9 rs ∷ Call.mov_imm64 10 imm ∷ Call.emit w ∷ Call.store 11 rd ∷ []) }
     {
         self.load(9, rs).mov_imm64(10, imm).emit(w).store(11, rd)
+    }
+
+    // The words after the first `at` of a block, where there is room for the whole array: all of that is moved, and as
+    // many count as are held; the new count.
+    #[tactic(auto, unfolding(crate::specs::Parts::held))]
+    pub fn append_to(self, words: &mut [u32], at: usize) -> usize
+        requires { at + instr_words ≤ length words.old }
+        ensures { Added words.old at words.new result (held self.entry).words }
+    {
+        let len = self.len;
+        let part = &*self.words;
+        a64_emitter::append_at(words, at, part, len)
     }
 
     // `Some(EmitFlow::Continue)`, `Some(EmitFlow::Terminate)` and `None`.

@@ -18,7 +18,7 @@ pub struct InstrEmitter<'a> {
 }
 
 // What an instruction does to the block: it goes on, or ends.
-#[derive(Clone, Copy, PartialEq)]
+#[derive(Clone, Copy)]
 pub enum EmitFlow {
     Continue,
     Terminate,

@@ -9,24 +9,24 @@ use lib.ListN.{length}
 use borrow.Author.Tests.{leb-true, leb-false}
 use Rattle.word.specs.Word.{add}
 use Rattle.le.specs.Le.{load}
-use Rattle.fetch_window.specs.declared.Halfword.TheVariants.{Missing, Found}
+use Rattle.std.specs.Prelude.{Option, Some, None}
 use Rattle.fetch_window.specs.Parts.{halfword_at, index}
 
 module _ (bytes : List ℕ) (i : ℕ) where
-  found_by : (w : ℕ) (b : Bool) → leb (i + 2) (length bytes) ≡ b → cond b (Found (load 2 bytes i)) Missing ≡ Found w
+  found_by : (w : ℕ) (b : Bool) → leb (i + 2) (length bytes) ≡ b → cond b (Some (load 2 bytes i)) None ≡ Some w
       → (i + 2 ≤ length bytes) × (load 2 bytes i ≡ w)
   found_by w true t e = (leb-true (i + 2) (length bytes) t, cc)
   found_by w false t e = absurd (let z : ◌≡◌ {A = ℕ} 0 1 = cc in omega arith)
 
-  pub found : (w : ℕ) → halfword_at bytes i ≡ Found w → (i + 2 ≤ length bytes) × (load 2 bytes i ≡ w)
+  pub found : (w : ℕ) → halfword_at bytes i ≡ Some w → (i + 2 ≤ length bytes) × (load 2 bytes i ≡ w)
   unfolding halfword_at
   found w e = found_by w (leb (i + 2) (length bytes)) refl e
 
-  missing_by : (b : Bool) → leb (i + 2) (length bytes) ≡ b → cond b (Found (load 2 bytes i)) Missing ≡ Missing → length bytes < i + 2
+  missing_by : (b : Bool) → leb (i + 2) (length bytes) ≡ b → cond b (Some (load 2 bytes i)) None ≡ None → length bytes < i + 2
   missing_by true t e = let z : ◌≡◌ {A = ℕ} 0 1 = cc in omega arith
   missing_by false t e = leb-false (i + 2) (length bytes) t
 
-  pub missing : halfword_at bytes i ≡ Missing → length bytes < i + 2
+  pub missing : halfword_at bytes i ≡ None → length bytes < i + 2
   unfolding halfword_at
   missing e = missing_by (leb (i + 2) (length bytes)) refl e
 

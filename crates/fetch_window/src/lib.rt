@@ -1,44 +1,37 @@
-// The fetch window: `read_u16` of the original's `Bus`, for instruction fetches.
+// The fetch window: `read_u16` of the original's `Bus`, for instruction fetches. A halfword is none where fewer than two
+// bytes are left.
 #![tactic(auto)]
 
 ghost use Rattle.std.specs.Prelude.{◌≡◌};
 ghost use Rattle.fetch_window.specs.Parts.{halfword_at, read_u16};
 
-// What stands at a PC.
-#[derive(Drop)]
-pub enum Halfword {
-    // fewer than two bytes are left
-    Missing,
-    Found(u16),
-}
-
 // The lent bytes and the PC of their first.
-#[derive(Drop)]
+#[derive(Clone, Copy)]
 pub struct FetchWindow<'a> {
     pub bytes: &'a [u8],
     pub start: u64,
 }
 
 // The halfword at an index of the bytes.
-pub fn halfword_at(bytes: &[u8], i: u64) -> Halfword
+pub fn halfword_at(bytes: &[u8], i: u64) -> Option<u16>
     ensures { result ≡ halfword_at bytes.now i }
 {
     let n = bytes.len();
-    if n < 2 {
-        return Halfword::Missing;
-    }
     let i = i as usize;
-    if n - 2 < i {
-        return Halfword::Missing;
+    if n < 2 {
+        return None;
     }
-    Halfword::Found(le::load::<u16>(bytes, i))
+    if n - 2 < i {
+        return None;
+    }
+    Some(le::load::<u16>(bytes, i))
 }
 
 // The halfword at a PC.
-pub fn halfword_at_pc(bytes: &[u8], start: u64, pc: u64) -> Halfword
+pub fn halfword_at_pc(bytes: &[u8], start: u64, pc: u64) -> Option<u16>
     ensures { result ≡ read_u16 bytes.now start pc }
 {
-    halfword_at(bytes, word::sub(pc, start))
+    halfword_at(bytes, pc.wrapping_sub(start))
 }
 
 impl<'a> FetchWindow<'a> {
@@ -48,7 +41,7 @@ impl<'a> FetchWindow<'a> {
         FetchWindow { bytes, start }
     }
 
-    pub fn read_u16(self, pc: u64) -> Halfword
+    pub fn read_u16(self, pc: u64) -> Option<u16>
         ensures { result ≡ read_u16 self.entry.bytes.now self.entry.start pc }
     {
         halfword_at_pc(self.bytes, self.start, pc)
@@ -56,7 +49,7 @@ impl<'a> FetchWindow<'a> {
 }
 
 // A fetch with plain parameters.
-pub fn read_u16(bytes: &[u8], start: u64, pc: u64) -> Halfword
+pub fn read_u16(bytes: &[u8], start: u64, pc: u64) -> Option<u16>
     ensures { result ≡ read_u16 bytes.now start pc }
 {
     FetchWindow::new(bytes, start).read_u16(pc)

@@ -14,7 +14,7 @@ use Rattle.hilofanur.specs.declared.Rv64RunAnswer.{Rv64RunAnswer}
 use Rattle.hilofanur.specs.declared.ListAnswer.{ListAnswer}
 use Rattle.hilofanur.specs.declared.IndexPlaceAnswer.{IndexPlaceAnswer}
 use Rattle.hilofanur.specs.declared.IndexLookupAnswer.{IndexLookupAnswer}
-use Rattle.listing.specs.declared.Listed.{Listed}
+use Rattle.listing.specs.Listing.{Listed}
 use Rattle.block_index.specs.Model.{Placed, Found}
 
 -- ---- Translate: the answer, and the output's bytes

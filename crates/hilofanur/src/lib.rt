@@ -7,6 +7,7 @@ ghost use Rattle.translation.specs.HelperBlock.{HelperEnded, HelperBlock};
 ghost use Rattle.translation.specs.RustBlock.{ZbbFree, RustBlock};
 ghost use Rattle.translation.specs.Size.{Size};
 ghost use Rattle.listing.specs.Listing.{Lists};
+ghost use Rattle.listing.specs.Listing as Listing;
 ghost use Rattle.block_log.specs.Log.{emptied};
 ghost use Rattle.block_index.specs.History.{Looks, Places};
 ghost use Rattle.block_index.specs.Model as Model;
@@ -16,6 +17,7 @@ ghost use Rattle.hilofanur.specs.Answers as Answers;
 use block_log::Entry;
 use code_cache::Placed;
 use emit_native::Host;
+use listing::ListRefusal;
 use rules::refusals::Refusal;
 use state_bytes::{a64_state, rv64_hart};
 
@@ -82,6 +84,25 @@ pub struct ListAnswer {
     pub refusal: u64,
     pub length: u64,
     pub offset: u64,
+}
+
+impl From<Result<usize, ListRefusal>> for ListAnswer {
+    ghost from_gives = { λ r a. Answers.listed a ≡ Listing.answer r };
+
+    fn from(answer: Result<usize, ListRefusal>) -> ListAnswer {
+        match answer {
+            Ok(length) => ListAnswer {
+                refusal: 0,
+                length: length as u64,
+                offset: 0,
+            },
+            Err(refusal) => ListAnswer {
+                refusal: u64::from(Refusal::from(refusal)),
+                length: 0,
+                offset: refusal.offset() as u64,
+            },
+        }
+    }
 }
 
 // The refusal, 0 where the code was placed; where it starts in the store.
@@ -162,12 +183,19 @@ pub extern "C" fn hilofanur_translate(
         helper16,
         ignore_ebreak,
     };
-    let a = translation::translate(guest, pc, limit, host, output);
-    TranslateAnswer {
-        refusal: a.refusal,
-        length: a.length,
-        count: a.count,
-        end: a.end,
+    match translation::translate(guest, pc, limit, host, output) {
+        Ok(block) => TranslateAnswer {
+            refusal: 0,
+            length: block.length,
+            count: block.count,
+            end: u32::from(block.end),
+        },
+        Err(refusal) => TranslateAnswer {
+            refusal: u32::from(refusal),
+            length: 0,
+            count: 0,
+            end: 0,
+        },
     }
 }
 
@@ -258,12 +286,7 @@ pub extern "C" fn hilofanur_rv64_run(
 pub extern "C" fn hilofanur_list(block: &[u8], output: &mut [u8]) -> ListAnswer
     ensures { Lists block.now output.old (Answers.listed result) output.new }
 {
-    let listed = listing::list(block, output);
-    ListAnswer {
-        refusal: listed.refusal,
-        length: listed.length,
-        offset: listed.offset,
-    }
+    ListAnswer::from(listing::list(block, output))
 }
 
 // index: block_log's layout. Emptied once, it is the calls' own.

@@ -3,19 +3,22 @@ use Rattle.std.proofs.Common.{◌≡◌, ℕ, ◌+◌, ◌%◌, ◌<◌, ◌≤�
 use mathlib.Core.List.{flatten}
 use Rattle.rules.specs.Limits.{inline_words, instr_words}
 use Rattle.a64_emitter.specs.Writers as Writers
-use Rattle.a64_emitter.specs.Parts.{held, Added}
-use Rattle.a64_emitter.proofs.Emission.{constant_length, movk-none, emitted_all_new, emitted-fits}
+use Rattle.a64_emitter.specs.Parts.{Added}
+use Rattle.a64_emitter.proofs.Emission.{constant_length, movk-none, emitted-fits, in_turn-fits}
 use Rattle.isa.specs.declared.decode.Decoded32.{Decoded32}
 use Rattle.isa.specs.declared.zbb.Found.{Found}
 use Rattle.isa.specs.Zbb.{find}
-use Rattle.emit_native.specs.declared.EmitFlow.TheVariants.{Terminate, None}
+use Rattle.emit_native.specs.declared.EmitFlow.{EmitFlow}
+use Rattle.emit_native.specs.declared.EmitFlow.TheVariants.{Terminate}
+use Rattle.std.specs.Prelude.{Some, None}
 use Rattle.emit_native.specs.declared.Emitted.{Emitted}
 use Rattle.emit_native.specs.declared.Host.{Host}
 use Rattle.isa.specs.Isa.{OPCODE_LOAD, OPCODE_STORE, OPCODE_LOAD_FP, OPCODE_STORE_FP, OPCODE_SYSTEM, OPCODE_AMO, F3_LB, F3_LH, F3_LW, F3_LD, F3_LBU, F3_LHU, F3_LWU, F3_SB, F3_SH, F3_SW, F3_SD}
 use Rattle.isa.specs.Decode.{decode32, c_op, c_funct3, imm_i, imm_s}
 use Rattle.a64_emitter.specs.Writers.{add_x, ldr_x, str_x, mov_x, sub_sp_imm, add_sp_imm, blr, ret}
-use Rattle.emit_native.specs.Calls.{Call, emit, mov_imm64, load, product, call_words, groups, words_in, words, if_not_0, store_rd, Emission, none}
-use Rattle.emit_native.specs.Parts.{Emits}
+use Rattle.emit_native.specs.Calls.{Call, Flow, emit, mov_imm64, load, product, call_words, groups, words_in, words, if_not_0, store_rd, Emission, none}
+use Rattle.emit_native.specs.Parts.{Held, Answer, held, nothing, after, answer, emitted}
+use Rattle.emit_native.proofs.Chains.{after_is}
 use Rattle.instr16.specs.Instr16.{emit_native_instr16, quadrant_0, quadrant_2}
 use Rattle.instr32.specs.Instr32.{emit_native_instr}
 use Rattle.term_helper.specs.TermHelper.{call_helper, call_exec, load_calls, store_calls, load_helper, store_helper, load_op, store_op, opcode_helper, memory_funct3, supports, emit_native_term_helper16, emit_native_term_helper32}
@@ -25,7 +28,7 @@ use Rattle.instr32.proofs.Size.{instr_size}
 use Rattle.zbb.specs.Emission.{emission}
 use Rattle.zbb.proofs.Size.{zbb_size}
 use Rattle.jit_arm64.specs.Block.{is_32, emit_native, zbb_of, zbb_first, emit_inline, emit_term_helper}
-use Rattle.jit_arm64.specs.Parts.{Compiled}
+use Rattle.jit_arm64.specs.Parts.{alone, Compiled, unfit}
 use Rattle.jit_arm64.proofs.Refused.{rust_helps_none}
 
 -- ---- words after others
@@ -39,18 +42,34 @@ words_append slot_offset (c ∷ cs) ds =
 
 -- the words ws after the first n of l: then the first r of l'
 pub record Appended (l : List ℕ) (n : ℕ) (l' : List ℕ) (r : ℕ) (ws : List ℕ) : Type 0 where
-  pub long : length l' ≡ length l
   pub holds : take r l' ≡ take n l ++ ws
   pub len : r ≡ n + length ws
 
 -- they all fit
-pub put : {l l' : List ℕ} {n r : ℕ} {ws : List ℕ} → n + length ws ≤ length l → Added (length l) l n l' r ws → Appended l n l' r ws
-put {l} {l'} {n} {r} {ws} room added =
+pub put : {l l' : List ℕ} {n r : ℕ} {ws : List ℕ} → n + length ws ≤ length l → length l' ≡ length l → Added l n l' r ws → Appended l n l' r ws
+put {l} {l'} {n} {r} {ws} room same added =
     let b : length (take n l) ≡ n = length-take n l ∙ (omega arith) in
     let h : take r l' ≡ take n l ++ ws = added.holds ∙ emitted-fits (length l) (take n l) ws (omega arith) in
-    let k : min r (length l) ≡ length (take n l) + length ws = sym (rw added.long at (length-take r l')) ∙ ap length h ∙ length-append (take n l) ws in
+    let k : min r (length l) ≡ length (take n l) + length ws = sym (rw same at (length-take r l')) ∙ ap length h ∙ length-append (take n l) ws in
     let m : r ≤ length l = added.room (omega arith) in
-    record { long = added.long; holds = h; len = omega arith }
+    record { holds = h; len = omega arith }
+
+-- ---- what an answer says
+
+-- of calls alone in an emitter
+abbrev compiled : ℕ → List Call → Flow → Answer
+compiled slot_offset cs f = record { held = alone slot_offset cs; flow = f }
+
+is_compiled : (slot_offset : ℕ) (cs : List Call) (f : Flow) (r : Emitted) → answer r ≡ compiled slot_offset cs f → Compiled slot_offset cs f r
+unfolding answer
+is_compiled slot_offset cs f r e = record { holds = ap (λ (a : Answer). a.held) e; flow = ap (λ (a : Answer). a.flow) e }
+
+pub words_are : {slot_offset : ℕ} {cs : List Call} {f : Flow} {r : Emitted} → Compiled slot_offset cs f r → (held r.em).words ≡ words slot_offset cs
+words_are c = ap (λ (h : Held). h.words) c.holds
+
+pub flow_is : (r : Emitted) (a : Answer) → answer r ≡ a → r.flow ≡ a.flow
+unfolding answer
+flow_is r a e = ap (λ (x : Answer). x.flow) e
 
 -- ---- Zbb's instructions, and the others
 
@@ -73,6 +92,9 @@ zbb_flow (Found.Unary z) instr e = let y : ◌≡◌ {A = ℕ} 0 1 = cc in absur
 pub zbb_refuses : (f : Found) (instr : ℕ) → f ≡ Found.Nothing → (emission f instr).flow ≡ None
 unfolding emission
 zbb_refuses f instr e = rw e
+
+pub zbb_taken : {P : Type 0} (f : EmitFlow) → None ≡ Some f → P
+zbb_taken f e = let z : ◌≡◌ {A = Flow} None (Some f) = e in absurd (cc)
 
 -- ---- the emitters by the width
 
@@ -173,11 +195,11 @@ module _ (slot_offset : ℕ) where
 
   -- the helper's emitter refuses, or the inline one does with nothing left and the helper's takes the instruction
   abbrev pub Apart : Emission → Emission → Type 0
-  Apart e helper = (helper ≡ none []) ⊎ ((e ≡ none []) × (helper.flow ≡ Terminate) × (size slot_offset helper.calls ≤ instr_words))
+  Apart e helper = (helper ≡ none []) ⊎ ((e ≡ none []) × (helper.flow ≡ Some Terminate) × (size slot_offset helper.calls ≤ instr_words))
 
   -- taken, or refused
   abbrev Either : Emission → Type 0
-  Either helper = (helper ≡ none []) ⊎ ((helper.flow ≡ Terminate) × (size slot_offset helper.calls ≤ instr_words))
+  Either helper = (helper ≡ none []) ⊎ ((helper.flow ≡ Some Terminate) × (size slot_offset helper.calls ≤ instr_words))
 
   not_0 : (f : ℕ) → memory_funct3 f ≡ true → eqb f 0b000 ≡ false
   not_0 f h = by (eqb f 0b000) (λ t. let z : ◌≡◌ false true = rw (eqb-true f 0b000 t) at h in cc) (λ t. t)
@@ -279,39 +301,53 @@ module _ (slot_offset : ℕ) where
       (λ t. rw t (by_zbb (λ (e : Emission). Apart e (emit_term_helper h pc instr k)) (find instr) instr _ (λ f. inl (unfold emit_term_helper in (rw t (rust_helps_none h pc instr k f)))) (λ f. native-apart h pc instr k b)))
       (λ t. rw t (native-apart h pc instr k b))
 
-  -- from a new emitter
-  pub alone : (h : List ℕ) (e : Emission) (out : Emitted) (l : List ℕ) → h ≡ [] → Emits slot_offset h e out l → size slot_offset e.calls ≤ inline_words → held out.em l ≡ words slot_offset e.calls
+  -- calls whose words all fit in a new emitter
+  fitting : (cs : List Call) → size slot_offset cs ≤ instr_words → after (nothing slot_offset) cs ≡ alone slot_offset cs
   unfolding words_in
-  alone h e out l new emits few = emits.words ∙ emitted_all_new h (groups slot_offset e.calls) new (omega arith)
+  fitting cs few = after_is (nothing slot_offset) cs ∙ rw (in_turn-fits instr_words [] (groups slot_offset cs) (omega (arith, few))) refl
 
-  -- from what the inline emitter left
-  pub handed_on : (e helper : Emission) (left : List ℕ) (out : Emitted) (l : List ℕ) → Apart e helper → left ≡ words slot_offset e.calls → Emits slot_offset left helper out l
-      → held out.em l ≡ words slot_offset (e.calls ++ helper.calls)
+  by_new : (e : Emission) → size slot_offset e.calls ≤ instr_words → emitted (nothing slot_offset) e ≡ compiled slot_offset e.calls e.flow
+  by_new e few = rw (fitting e.calls few) refl
+
+  -- what the code's emitters answer, from a new emitter
+  compiled_as : (x : Emission) → size slot_offset x.calls ≤ inline_words → {e : Emission} (r : Emitted) → x ≡ e → answer r ≡ emitted (nothing slot_offset) e
+      → Compiled slot_offset x.calls x.flow r
+  compiled_as x few {e} r q is = let small = rw q at few in rw q (is_compiled slot_offset e.calls e.flow r (is ∙ by_new e (omega (arith, small))))
+
+  pub inline_compiled : (h : Host) (pc instr : ℕ) {e : Emission} (r : Emitted) → emit_inline product h pc instr ≡ e → answer r ≡ emitted (nothing slot_offset) e
+      → Compiled slot_offset (emit_inline product h pc instr).calls (emit_inline product h pc instr).flow r
+  inline_compiled h pc instr = compiled_as (emit_inline product h pc instr) (inline-size h pc instr)
+
+  -- and from what the inline emitter left
+  handed_on : (e helper : Emission) → Apart e helper → emitted (alone slot_offset e.calls) helper ≡ compiled slot_offset (e.calls ++ helper.calls) helper.flow
   unfolding words_in flatten
-  handed_on e helper left out l (inl a) q emits = rw a at emits.words ∙ q ∙ rw (a, append-nil e.calls)
-  handed_on e helper left out l (inr a) q emits =
-      rw a.0 (emits.words ∙ emitted_all_new left (groups slot_offset helper.calls) (q ∙ rw a.0) a.2)
+  handed_on e helper (inl a) = rw (a, append-nil e.calls) refl
+  handed_on e helper (inr a) = rw a.0 (by_new helper a.2)
 
-  -- what the code's emitters answer
-  compiled_as : (x : Emission) → size slot_offset x.calls ≤ inline_words → {e : Emission} {new : List ℕ} {out : Emitted} {l : List ℕ} → x ≡ e → new ≡ [] → Emits slot_offset new e out l
-      → Compiled slot_offset x.calls x.flow out l
-  compiled_as x few {e} {new} {out} {l} q n emits =
-      let small = rw q at few in rw q (record { long = emits.long; holds = alone new e out l n emits small; flow = emits.flow })
+  pub compiled_helper : (h : Host) (pc instr k : ℕ) {helper : Emission} (r : Emitted) → k < 65536 → emit_term_helper h pc instr k ≡ helper
+      → answer r ≡ emitted (alone slot_offset (emit_inline product h pc instr).calls) helper
+      → Compiled slot_offset ((emit_inline product h pc instr).calls ++ (emit_term_helper h pc instr k).calls) (emit_term_helper h pc instr k).flow r
+  compiled_helper h pc instr k {helper} r b q is =
+      rw q (is_compiled slot_offset _ helper.flow r (is ∙ handed_on (emit_inline product h pc instr) helper (rw q at (inline-apart h pc instr k b))))
 
-  pub compiled : (h : Host) (pc instr : ℕ) {e : Emission} {new : List ℕ} {out : Emitted} {l : List ℕ} → emit_inline product h pc instr ≡ e → new ≡ [] → Emits slot_offset new e out l
-      → Compiled slot_offset (emit_inline product h pc instr).calls (emit_inline product h pc instr).flow out l
-  compiled h pc instr = compiled_as (emit_inline product h pc instr) (inline-size h pc instr)
-
-  pub rust_compiled : (h : Host) (pc instr : ℕ) {e : Emission} {new : List ℕ} {out : Emitted} {l : List ℕ} → emit_native h pc instr ≡ e → new ≡ [] → Emits slot_offset new e out l
-      → Compiled slot_offset (emit_native h pc instr).calls (emit_native h pc instr).flow out l
-  rust_compiled h pc instr = compiled_as (emit_native h pc instr) (native-size h pc instr)
-
-  pub compiled_helper : (h : Host) (pc instr k : ℕ) {helper : Emission} {left : List ℕ} {out : Emitted} {l : List ℕ} → k < 65536 → emit_term_helper h pc instr k ≡ helper
-      → left ≡ words slot_offset (emit_inline product h pc instr).calls → Emits slot_offset left helper out l
-      → Compiled slot_offset ((emit_inline product h pc instr).calls ++ (emit_term_helper h pc instr k).calls) (emit_term_helper h pc instr k).flow out l
-  compiled_helper h pc instr k {helper} {left} {out} {l} b q t emits =
-      let a = rw q at (inline-apart h pc instr k b) in
-      rw q (record { long = emits.long; holds = handed_on (emit_inline product h pc instr) helper left out l a t emits; flow = emits.flow })
+  -- Zbb's emitter after the Rust's, which refused the instruction
+  pub zbb_compiled : (h : Host) (pc instr : ℕ) {d : Decoded32} (out r : Emitted) → d ≡ decode32 instr → instr % 4 ≡ 3
+      → answer out ≡ emitted (nothing slot_offset) (emit_native_instr pc instr d) → out.flow ≡ None
+      → (find instr ≡ Found.Nothing → answer r ≡ unfit (held out.em))
+      → ((find instr ≡ Found.Nothing → ⊥) → answer r ≡ emitted (nothing (held out.em).slot_offset) (emission (find instr) instr))
+      → Compiled slot_offset (emit_inline product h pc instr).calls (emit_inline product h pc instr).flow r
+  unfolding emit_inline zbb_of
+  zbb_compiled h pc instr {d} out r e wide is refused other zbb =
+      let rust = compiled_as (emit_native h pc instr) (native-size h pc instr) out (native32 h pc instr d e wide) is in
+      let same : (held out.em).slot_offset ≡ slot_offset = ap (λ (x : Held). x.slot_offset) rust.holds in
+      let no_flow : (emit_native h pc instr).flow ≡ None = sym rust.flow ∙ refused in
+      rw (eq-eqb (instr % 4) 3 wide)
+      (by_zbb (λ (x : Emission). Compiled slot_offset x.calls x.flow r) (find instr) instr (emit_native h pc instr)
+      (λ f. compiled_as (emission (find instr) instr) (zbb_fits instr f) r refl (rw same at (zbb f)))
+      (λ f. is_compiled slot_offset (emit_native h pc instr).calls (emit_native h pc instr).flow r (rw no_flow (rw rust.holds at (other f)))))
+    where
+      zbb_fits : (w : ℕ) → (find w ≡ Found.Nothing → ⊥) → size slot_offset (emission (find w) w).calls ≤ inline_words
+      zbb_fits w f = (zbb_size slot_offset w).within
 
   -- the words of an instruction that a helper takes, and of one that is not covered
   pub helped-size : (e helper : Emission) → size slot_offset e.calls ≤ inline_words → Apart e helper → size slot_offset (e.calls ++ helper.calls) ≤ instr_words
@@ -319,6 +355,6 @@ module _ (slot_offset : ℕ) where
   helped-size e helper few (inl a) = rw (a, append-nil e.calls) (omega arith)
   helped-size e helper few (inr a) = rw a.0 a.2
 
-  pub uncovered_size : (e helper : Emission) → size slot_offset e.calls ≤ inline_words → Apart e helper → (helper.flow ≡ Terminate → ⊥) → size slot_offset (e.calls ++ helper.calls) ≤ inline_words
+  pub uncovered_size : (e helper : Emission) → size slot_offset e.calls ≤ inline_words → Apart e helper → (helper.flow ≡ Some Terminate → ⊥) → size slot_offset (e.calls ++ helper.calls) ≤ inline_words
   uncovered_size e helper few (inl a) other = rw (a, append-nil e.calls) few
   uncovered_size e helper few (inr a) other = absurd (other a.1)

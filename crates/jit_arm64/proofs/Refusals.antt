@@ -3,24 +3,24 @@ use Rattle.std.proofs.Common.{◌≡◌, ℕ, zero, suc, ◌+◌, ◌%◌, ◌^�
 use mathlib.Core.Option.{Option, none, some}
 use Rattle.word.specs.Word.{add}
 use Rattle.emit_native.specs.declared.Host.{Host}
-use Rattle.emit_native.specs.declared.EmitFlow.{EmitFlow}
-use Rattle.emit_native.specs.declared.EmitFlow.TheVariants.{Continue, Terminate, None}
-use Rattle.emit_native.specs.Calls.{Call, Dialect, Emission}
+use Rattle.emit_native.specs.declared.EmitFlow.TheVariants.{Continue, Terminate}
+use Rattle.std.specs.Prelude.{Some, None}
+use Rattle.emit_native.specs.Calls.{Call, Flow, Dialect, Emission}
 use Rattle.emit_native.proofs.Size.{by}
 use Rattle.jit_arm64.specs.Block.{Walk, fetch, is_missing, size_of, helped, step, instr_walk, walk, whole_walk, block_of, compile_native_block}
 use Rattle.jit_arm64.specs.Parts.{neither, is_uncovered, missed}
 
 -- the walk never counts less than it began with
-helped_count : (f : EmitFlow) (cs : List Call) (k pc : ℕ) → k ≤ (helped f cs k pc).count
+helped_count : (f : Flow) (cs : List Call) (k pc : ℕ) → k ≤ (helped f cs k pc).count
 unfolding helped
-helped_count Continue cs k pc = omega arith
-helped_count Terminate cs k pc = omega arith
+helped_count (Some Continue) cs k pc = omega arith
+helped_count (Some Terminate) cs k pc = omega arith
 helped_count None cs k pc = omega arith
 
-step_count : (f : EmitFlow) (e helper : Emission) (n start k i : ℕ) (rest : ℕ → ℕ → Walk) → ((m j : ℕ) → m ≤ (rest m j).count) → k ≤ (step f e helper n start k i rest).count
+step_count : (f : Flow) (e helper : Emission) (n start k i : ℕ) (rest : ℕ → ℕ → Walk) → ((m j : ℕ) → m ≤ (rest m j).count) → k ≤ (step f e helper n start k i rest).count
 unfolding step
-step_count Continue e helper n start k i rest up = omega (arith, up (suc k) (i + n))
-step_count Terminate e helper n start k i rest up = omega arith
+step_count (Some Continue) e helper n start k i rest up = omega (arith, up (suc k) (i + n))
+step_count (Some Terminate) e helper n start k i rest up = omega arith
 step_count None e helper n start k i rest up = helped_count helper.flow _ k _
 
 instr_count : (d : Dialect) (h : Host) (f : Option ℕ) (start k i : ℕ) (rest : ℕ → ℕ → Walk) → ((m j : ℕ) → m ≤ (rest m j).count) → k ≤ (instr_walk d h f start k i rest).count
@@ -34,17 +34,17 @@ walk-count d h guest start zero k i = omega arith
 walk-count d h guest start (suc left) k i = instr_count d h _ start k i (walk d h guest start left) (walk-count d h guest start left)
 
 -- nothing is counted where the first instruction is missing or not covered
-helped-first : (f : EmitFlow) (cs : List Call) (pc : ℕ) → eqb (helped f cs 0 pc).count 0 ≡ neither None f
+helped-first : (f : Flow) (cs : List Call) (pc : ℕ) → eqb (helped f cs 0 pc).count 0 ≡ neither None f
 unfolding helped neither
-helped-first Continue cs pc = refl
-helped-first Terminate cs pc = refl
+helped-first (Some Continue) cs pc = refl
+helped-first (Some Terminate) cs pc = refl
 helped-first None cs pc = refl
 
-step_first : (f : EmitFlow) (e helper : Emission) (n start : ℕ) (rest : ℕ → ℕ → Walk) → ((m j : ℕ) → m ≤ (rest m j).count)
+step_first : (f : Flow) (e helper : Emission) (n start : ℕ) (rest : ℕ → ℕ → Walk) → ((m j : ℕ) → m ≤ (rest m j).count)
     → eqb (step f e helper n start 0 0 rest).count 0 ≡ neither f helper.flow
 unfolding step neither
-step_first Continue e helper n start rest up = ne_eqb (rest 1 (0 + n)).count 0 (λ q. omega (arith, up 1 (0 + n), q))
-step_first Terminate e helper n start rest up = refl
+step_first (Some Continue) e helper n start rest up = ne_eqb (rest 1 (0 + n)).count 0 (λ q. omega (arith, up 1 (0 + n), q))
+step_first (Some Terminate) e helper n start rest up = refl
 step_first None e helper n start rest up = helped-first helper.flow _ _
 
 instr_first : (d : Dialect) (h : Host) (f : Option ℕ) (start : ℕ) (rest : ℕ → ℕ → Walk) → ((m j : ℕ) → m ≤ (rest m j).count)
@@ -54,17 +54,17 @@ instr_first d h none start rest up = refl
 instr_first d h (some instr) start rest up = step_first _ _ _ (size_of instr) start rest up
 
 -- and then the stop says which of the two
-helped_why : (f : EmitFlow) (cs : List Call) (pc : ℕ) → missed (helped f cs 0 pc).stop ≡ false
+helped_why : (f : Flow) (cs : List Call) (pc : ℕ) → missed (helped f cs 0 pc).stop ≡ false
 unfolding helped missed
-helped_why Continue cs pc = refl
-helped_why Terminate cs pc = refl
+helped_why (Some Continue) cs pc = refl
+helped_why (Some Terminate) cs pc = refl
 helped_why None cs pc = refl
 
-step_why : (f : EmitFlow) (e helper : Emission) (n start : ℕ) (rest : ℕ → ℕ → Walk) → ((m j : ℕ) → m ≤ (rest m j).count)
+step_why : (f : Flow) (e helper : Emission) (n start : ℕ) (rest : ℕ → ℕ → Walk) → ((m j : ℕ) → m ≤ (rest m j).count)
     → (step f e helper n start 0 0 rest).count ≡ 0 → missed (step f e helper n start 0 0 rest).stop ≡ false
 unfolding step missed
-step_why Continue e helper n start rest up q = absurd (omega (arith, up 1 (0 + n), q))
-step_why Terminate e helper n start rest up q = refl
+step_why (Some Continue) e helper n start rest up q = absurd (omega (arith, up 1 (0 + n), q))
+step_why (Some Terminate) e helper n start rest up q = refl
 step_why None e helper n start rest up q = helped_why helper.flow _ _
 
 instr_why : (d : Dialect) (h : Host) (f : Option ℕ) (start : ℕ) (rest : ℕ → ℕ → Walk) → ((m j : ℕ) → m ≤ (rest m j).count)

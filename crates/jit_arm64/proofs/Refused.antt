@@ -5,7 +5,7 @@ use Rattle.isa.specs.declared.zbb.Found.{Found}
 use Rattle.isa.specs.Zbb.{registers, word_shifts, unaries, shifts, find}
 use Rattle.isa.specs.Decode.{decode32}
 use Rattle.isa.proofs.ZbbRows.{each_row, opcode_of}
-use Rattle.emit_native.specs.declared.EmitFlow.TheVariants.{None}
+use Rattle.std.specs.Prelude.{None}
 use Rattle.emit_native.specs.declared.Host.{Host}
 use Rattle.emit_native.specs.Calls.{none, store_rd}
 use Rattle.instr32.specs.Instr32 as I32

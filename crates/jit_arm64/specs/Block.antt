@@ -1,16 +1,15 @@
 -- `compile_native_block`: the walk over the guest code, and the end of the block.
-use Rattle.std.specs.Prelude.{ℕ, zero, suc, ◌+◌, ◌*◌, ◌%◌, ◌^◌, min, Bool, true, false, cond, List, [], ◌∷◌, ◌++◌, length, ◌==◌, nat_le}
+use Rattle.std.specs.Prelude.{ℕ, zero, suc, ◌+◌, ◌*◌, ◌%◌, ◌^◌, min, Bool, true, false, cond, List, [], ◌∷◌, ◌++◌, length, ◌==◌, nat_le, Some, None}
 use Rattle.std.proofs.Math.Option.{Option, none, some}
 use Rattle.word.specs.Word.{add}
 use Rattle.le.specs.Le.{load}
 use Rattle.emit_native.specs.declared.Host.{Host}
-use Rattle.emit_native.specs.declared.EmitFlow.{EmitFlow}
-use Rattle.emit_native.specs.declared.EmitFlow.TheVariants.{Continue, Terminate, None}
+use Rattle.emit_native.specs.declared.EmitFlow.TheVariants.{Continue, Terminate}
 use Rattle.jit_arm64.specs.declared.block.Stop.{Stop}
 use Rattle.jit_arm64.specs.declared.block.Stop.TheVariants.{Limit, Ended, Helper, Uncovered, NotFetched}
 use Rattle.a64_emitter.specs.Writers.{ret}
 use Rattle.a64_emitter.specs.Emitter.{bytes}
-use Rattle.emit_native.specs.Calls.{Call, Dialect, rust, product, emit, mov_imm64, words_in, Emission}
+use Rattle.emit_native.specs.Calls.{Call, Flow, Dialect, rust, product, emit, mov_imm64, words_in, Emission}
 use Rattle.isa.specs.declared.zbb.Found.{Found}
 use Rattle.isa.specs.Decode.{decode32}
 use Rattle.isa.specs.Zbb.{find}
@@ -90,16 +89,16 @@ abbrev pub in_front : List Call → Walk → Walk
 in_front cs w = walked (cs ++ w.calls) w.count w.stop w.pc
 
 -- the helper's emitter took the instruction, or it is not covered
-unfoldable pub helped : EmitFlow → List Call → ℕ → ℕ → Walk
-helped Terminate cs emitted pc = walked cs (suc emitted) Helper pc
-helped Continue cs emitted pc = walked cs emitted Uncovered pc
+unfoldable pub helped : Flow → List Call → ℕ → ℕ → Walk
+helped (Some Terminate) cs emitted pc = walked cs (suc emitted) Helper pc
+helped (Some Continue) cs emitted pc = walked cs emitted Uncovered pc
 helped None cs emitted pc = walked cs emitted Uncovered pc
 
 -- an instruction of n bytes, by the inline emitter's flow; where it answers None, the helper's words follow
 -- rest: how the loop goes on, from the count and the index after the instruction
-unfoldable pub step : EmitFlow → Emission → Emission → ℕ → ℕ → ℕ → ℕ → (ℕ → ℕ → Walk) → Walk
-step Continue e helper n start emitted i rest = in_front e.calls (rest (suc emitted) (i + n))
-step Terminate e helper n start emitted i rest = walked e.calls (suc emitted) Ended (add start (i + n))
+unfoldable pub step : Flow → Emission → Emission → ℕ → ℕ → ℕ → ℕ → (ℕ → ℕ → Walk) → Walk
+step (Some Continue) e helper n start emitted i rest = in_front e.calls (rest (suc emitted) (i + n))
+step (Some Terminate) e helper n start emitted i rest = walked e.calls (suc emitted) Ended (add start (i + n))
 step None e helper n start emitted i rest = helped helper.flow (e.calls ++ helper.calls) emitted (add start i)
 
 -- the instruction that was fetched, or none. d: whose inline emitter

@@ -1,41 +1,46 @@
 -- What the functions of this crate promise one another; no operation's contract reaches it.
-use Rattle.std.specs.Prelude.{◌≡◌, ℕ, ◌+◌, ◌*◌, ◌%◌, ◌^◌, ◌<◌, ◌≤◌, Bool, true, false, cond, not, List, length, take, ◌==◌, ◌≢◌}
+use Rattle.std.specs.Prelude.{◌≡◌, ℕ, ◌+◌, ◌*◌, ◌%◌, ◌^◌, ◌<◌, ◌≤◌, Bool, true, false, not, List, length, take, ◌==◌, ◌≢◌, Some, None, IfSome}
 use Rattle.std.proofs.Math.Option.{Option, none, some}
 use Rattle.word.specs.Word.{add}
 use Rattle.rules.specs.Limits.{inline_words, end_words, max_words, max_instrs}
-use Rattle.a64_emitter.specs.Parts.{held, block_words, short_block_words, InstrArray}
+use Rattle.a64_emitter.specs.Parts.{block_words}
+use Rattle.fetch_window.specs.Parts.{Read}
 use Rattle.emit_native.specs.declared.Host.{Host}
-use Rattle.emit_native.specs.declared.EmitFlow.{EmitFlow}
-use Rattle.emit_native.specs.declared.EmitFlow.TheVariants.{Continue, Terminate, None}
+use Rattle.emit_native.specs.declared.EmitFlow.TheVariants.{Continue, Terminate}
 use Rattle.emit_native.specs.declared.Emitted.{Emitted}
-use Rattle.emit_native.specs.Calls.{Call, Dialect, product, words}
-use Rattle.jit_arm64.specs.declared.fetch.Fetched.{Fetched}
+use Rattle.emit_native.specs.Parts.{Held, Answer, held}
+use Rattle.emit_native.specs.Calls.{Call, Flow, Dialect, product, words}
 use Rattle.jit_arm64.specs.declared.block.Stop.{Stop}
 use Rattle.jit_arm64.specs.declared.block.Stop.TheVariants.{Limit, Ended, Helper, Uncovered, NotFetched}
 use Rattle.jit_arm64.specs.declared.block.Walked.{Walked}
-use Rattle.jit_arm64.specs.declared.block.ShortBlock.{ShortBlock}
 use Rattle.jit_arm64.specs.declared.block.NativeBlock.{NativeBlock}
-use Rattle.jit_arm64.specs.Block.{size_of, emit_inline, emit_term_helper, Walk, in_front, walk, whole_walk, block_calls}
+use Rattle.jit_arm64.specs.Block.{emit_inline, emit_term_helper, Walk, in_front, walk, whole_walk, block_calls}
 use Rattle.jit_arm64.specs.Fence.{to_fence, fence, limit_at}
 
--- what was fetched, and its length in bytes; 0 for both where a halfword is missing
-unfoldable pub fetched : Option ℕ → Fetched
-fetched none = record { size = 0; instr = 0 }
-fetched (some instr) = record { size = size_of instr; instr = instr }
+-- what was fetched, as the code has it
+unfoldable pub fetched : Option ℕ → Read
+fetched none = None
+fetched (some instr) = Some instr
 
 -- where the low two bits are not 11, the number has 16 bits
 abbrev pub Narrow : ℕ → Type 0
 Narrow instr = (instr % 4 ≢ 3) → instr < 2 ^ 16
 
-pub record FetchedOf (f : Option ℕ) (r : Fetched) : Type 0 where
+pub record FetchedOf (f : Option ℕ) (r : Read) : Type 0 where
   pub found : r ≡ fetched f
-  pub narrow : Narrow r.instr
+  pub narrow : IfSome r (λ instr. Narrow instr)
 
--- an instruction's words, by themselves at the front of its array l, and the flow
-pub record Compiled (slot_offset : ℕ) (cs : List Call) (f : EmitFlow) (r : Emitted) (l : List ℕ) : Type 0 where
-  pub long : InstrArray l
-  pub holds : held r.em l ≡ words slot_offset cs
+-- the words of calls alone in an emitter, and with the flow
+abbrev pub alone : ℕ → List Call → Held
+alone slot_offset cs = record { words = words slot_offset cs; slot_offset = slot_offset }
+
+pub record Compiled (slot_offset : ℕ) (cs : List Call) (f : Flow) (r : Emitted) : Type 0 where
+  pub holds : held r.em ≡ alone slot_offset cs
   pub flow : r.flow ≡ f
+
+-- the answer where an instruction is not inline, of an emitter that holds h
+abbrev pub unfit : Held → Answer
+unfit h = record { held = h; flow = None }
 
 -- ---- the walk and the block
 
@@ -71,14 +76,14 @@ has_return Uncovered = true
 has_return NotFetched = true
 
 -- by the flow of a helper's emitter: how many instructions it counts, and why the walk stops there
-unfoldable pub helped_count : EmitFlow → ℕ
-helped_count Terminate = 1
-helped_count Continue = 0
+unfoldable pub helped_count : Flow → ℕ
+helped_count (Some Terminate) = 1
+helped_count (Some Continue) = 0
 helped_count None = 0
 
-unfoldable pub helped_stop : EmitFlow → Stop
-helped_stop Terminate = Helper
-helped_stop Continue = Uncovered
+unfoldable pub helped_stop : Flow → Stop
+helped_stop (Some Terminate) = Helper
+helped_stop (Some Continue) = Uncovered
 helped_stop None = Uncovered
 
 -- whether a walk stopped for want of room: neither an instruction nor the limit did that
@@ -118,13 +123,12 @@ pub record Walks (slot_offset start : ℕ) (w : Walk) (f : Option ℕ) (l : List
   pub few : r.n ≤ max_instrs
   pub room : r.len + end_room r.stop ≤ length l
 
--- the walk from instruction k on, in an array of m words, which is then l: to its end, or as far as there is room
-pub record Onward (h : Host) (guest : List ℕ) (start limit m k : ℕ) (l : List ℕ) (r : Walked) : Type 0 where
-  pub long : length l ≡ m
+-- the walk from instruction k on, in an array that is then l: to its end, or as far as there is room
+pub record Onward (h : Host) (guest : List ℕ) (start limit k : ℕ) (l : List ℕ) (r : Walked) : Type 0 where
   pub more : k ≤ r.n
   pub whole : r.full ≡ false → Walks h.slot_offset start (fence_walk product max_instrs h guest start limit) (fence product max_instrs h guest start limit) l r
   pub part : r.full ≡ true → Partly h guest start limit l r
-  pub never : max_words ≤ m → r.full ≡ false
+  pub never : max_words ≤ length l → r.full ≡ false
 
 -- the block's words ws
 pub record BlockOf (h : Host) (guest : List ℕ) (start limit : ℕ) (ws : List ℕ) (r : Walked) : Type 0 where
@@ -134,23 +138,23 @@ pub record BlockOf (h : Host) (guest : List ℕ) (start limit : ℕ) (ws : List 
   pub fence : r.fence ≡ is_fenced (fence product max_instrs h guest start limit)
 
 -- in the short emitter, or as far as there is room in it
-pub record ShortOf (h : Host) (guest : List ℕ) (start limit : ℕ) (r : ShortBlock) : Type 0 where
-  pub whole : r.done.full ≡ false → BlockOf h guest start limit (short_block_words r.em) r.done
+pub record ShortOf {n : ℕ} (h : Host) (guest : List ℕ) (start limit : ℕ) (r : NativeBlock n) : Type 0 where
+  pub whole : r.done.full ≡ false → BlockOf h guest start limit (block_words r.em) r.done
   pub part : r.done.full ≡ true → Partly h guest start limit r.em.words r.done
 
 -- in the long one
-pub record LongOf (h : Host) (guest : List ℕ) (start limit : ℕ) (r : NativeBlock) : Type 0 where
+pub record LongOf {n : ℕ} (h : Host) (guest : List ℕ) (start limit : ℕ) (r : NativeBlock n) : Type 0 where
   pub whole : BlockOf h guest start limit (block_words r.em) r.done
   pub some : 0 < r.done.n
 
 -- ---- the first instruction
 
 -- neither inline nor a helper's, by the flows of the two emitters
-unfoldable pub neither : EmitFlow → EmitFlow → Bool
-neither Continue f = false
-neither Terminate f = false
-neither None Terminate = false
-neither None Continue = true
+unfoldable pub neither : Flow → Flow → Bool
+neither (Some Continue) f = false
+neither (Some Terminate) f = false
+neither None (Some Terminate) = false
+neither None (Some Continue) = true
 neither None None = true
 
 unfoldable pub is_uncovered : Dialect → Host → ℕ → Option ℕ → Bool

@@ -1,24 +1,22 @@
 // `compile_native_block`: limit, alignment and fetch around the emitters. FENCE.I ends a block (document 02, No. 3).
-ghost use Rattle.std.specs.Prelude.{◌≡◌, ℕ, ◌+◌, ◌%◌, ◌<◌, ◌≤◌, min, true, false, ◌++◌, length};
-ghost use Rattle.rules.specs.Limits.{inline_words, end_words, max_instrs, short_words, max_words, max_slot_offset};
-ghost use Rattle.a64_emitter.specs.Parts.{held, short_block_words, block_words, InstrArray, Copied};
+ghost use Rattle.std.specs.Prelude.{◌≡◌, ◌+◌, ◌%◌, ◌<◌, ◌≤◌, true, false, ◌++◌, length, None, ◌≢◌};
+ghost use Rattle.rules.specs.Limits.{inline_words, end_words, max_instrs, max_slot_offset};
 ghost use Rattle.isa.specs.declared.zbb.Found.{Found};
 ghost use Rattle.isa.specs.Zbb.{find};
-ghost use Rattle.emit_native.specs.Calls as Calls;
 ghost use Rattle.emit_native.specs.Calls.{product};
-ghost use Rattle.jit_arm64.specs.Block.{emit_native, emit_inline, emit_term_helper};
+ghost use Rattle.emit_native.specs.Parts.{held, nothing, answer, emitted};
+ghost use Rattle.zbb.specs.Emission.{emission};
+ghost use Rattle.jit_arm64.specs.Block.{emit_inline, emit_term_helper};
 ghost use Rattle.jit_arm64.specs.Fence.{is_fence_i};
-ghost use Rattle.jit_arm64.specs.Parts.{Narrow, Compiled, Walking, Onward, Partly, ShortOf, LongOf, sets_next, has_return, helped_count, helped_stop, is_full};
+ghost use Rattle.jit_arm64.specs.Parts.{Narrow, alone, Compiled, unfit, Walking, Onward, Partly, ShortOf, LongOf, sets_next, has_return, helped_count, helped_stop, is_full};
 
-use crate::fetch::fetch;
-use a64_emitter::{A64Emitter, InstrEmitter, ShortEmitter};
-use emit_native::{EmitFlow, Emitted, Host};
-use rules::{
-    END_WORDS, INLINE_WORDS, INSTR_WORDS, MAX_INSTRS, MAX_WORDS, SHORT_INSTRS, SHORT_WORDS,
-};
+use crate::fetch::{fetch, size_of};
+use a64_emitter::{A64Emitter, BlockEmitter, ShortEmitter};
+use emit_native::{EmitFlow, Emitted, Host, InstrEmitter};
+use rules::{END_WORDS, INLINE_WORDS, INSTR_WORDS, MAX_WORDS, SHORT_INSTRS, SHORT_WORDS};
 
 // Why the walk over the guest code stopped.
-#[derive(Clone, Copy)]
+#[derive(Clone, Copy, PartialEq)]
 pub enum Stop {
     Limit,
     Ended,
@@ -39,16 +37,10 @@ pub struct Walked {
     pub full: bool,
 }
 
-// A block's words, and what the walk did; where the short emitter was full, the words so far are in front.
+// A block's words, and what the walk did; where a short emitter was full, the words so far are in front.
 #[derive(Drop)]
-pub struct ShortBlock {
-    pub em: ShortEmitter,
-    pub done: Walked,
-}
-
-#[derive(Drop)]
-pub struct NativeBlock {
-    pub em: A64Emitter,
+pub struct NativeBlock<const N: usize> {
+    pub em: BlockEmitter<N>,
     pub done: Walked,
 }
 
@@ -56,100 +48,88 @@ pub struct NativeBlock {
 fn may_be_zbb(instr: u32) -> bool
     ensures { result ≡ false → find instr ≡ Found.Nothing }
 {
-    match instr % 128 {
-        isa::OPCODE_OP => true,
-        isa::OPCODE_OP_IMM => true,
-        isa::OPCODE_OP_32 => true,
-        isa::OPCODE_OP_IMM_32 => true,
-        _ => false,
+    let opcode = instr % 128;
+    matches!(
+        opcode,
+        isa::OPCODE_OP | isa::OPCODE_OP_IMM | isa::OPCODE_OP_32 | isa::OPCODE_OP_IMM_32
+    )
+}
+
+// Zbb's words in the place of those that the Rust's emitter left; these stay where it is no Zbb instruction.
+fn emit_zbb(mut em: InstrEmitter<'_>, instr: u32) -> Emitted<'_>
+    ensures other { find instr ≡ Found.Nothing → answer result ≡ unfit (held em.entry) }
+    ensures zbb { (find instr ≢ Found.Nothing) → answer result ≡ emitted (nothing (held em.entry).slot_offset) (emission (find instr) instr) }
+{
+    let len = em.len;
+    em.len = 0;
+    let found = zbb::emit_native_zbb(em, instr);
+    match found.flow {
+        Some(_) => found,
+        None => {
+            let mut em = found.em;
+            em.len = len;
+            em.none()
+        }
     }
 }
 
-// Zbb's words, or what the Rust's emitter left where it refused the instruction.
-fn emit_zbb(
-    out: Emitted,
-    words: &mut [u32; INSTR_WORDS],
-    host: Host,
-    pc: u64,
-    instr: u32,
-) -> Emitted
-    requires { (host.slot_offset ≤ max_slot_offset) × (instr % 4 ≡ 3) × InstrArray words.old × Compiled host.slot_offset (emit_native host pc instr).calls (emit_native host pc instr).flow out words.old }
-    ensures { Compiled host.slot_offset (emit_inline product host pc instr).calls (emit_inline product host pc instr).flow result words.new }
+// The inline words of an instruction, by its width, in a new emitter. The Rust's emitter refuses every Zbb instruction,
+// so that its answer stands where it is another, and a block without Zbb does not pay for Zbb.
+fn emit_native(part: &mut [u32; INSTR_WORDS], host: Host, pc: u64, instr: u32) -> Emitted<'_>
+    requires { (host.slot_offset ≤ max_slot_offset) × Narrow instr }
+    ensures { Compiled host.slot_offset (emit_inline product host pc instr).calls (emit_inline product host pc instr).flow result }
 {
-    let found = zbb::emit_native_zbb(InstrEmitter::new(), words, host.slot_offset, instr);
-    let flow = found.flow;
-    if let EmitFlow::None = flow {
-        return out;
-    }
-    found
-}
-
-// The inline words of an instruction, by its width, at the front of `words`. The Rust's emitter refuses every Zbb
-// instruction, so that its answer stands where it is another, and a block without Zbb does not pay for Zbb. Where it
-// refuses, Zbb's words come from a new emitter, and what the Rust left stays where it is no Zbb instruction.
-fn emit_native(words: &mut [u32; INSTR_WORDS], host: Host, pc: u64, instr: u32) -> Emitted
-    requires { (host.slot_offset ≤ max_slot_offset) × Narrow instr × InstrArray words.old }
-    ensures { Compiled host.slot_offset (emit_inline product host pc instr).calls (emit_inline product host pc instr).flow result words.new }
-{
+    let em = InstrEmitter::new(part, host.slot_offset);
     if instr % 4 != 3 {
         let low = (instr % 0x1_0000) as u16;
-        return instr16::emit_native_instr16(InstrEmitter::new(), words, host, pc, low);
+        return instr16::emit_native_instr16(em, host.ignore_ebreak, pc, low);
     }
     let d = isa::decode::decode32(instr);
-    let out = instr32::emit_native_instr(
-        InstrEmitter::new(),
-        words,
-        host.slot_offset,
-        pc,
-        instr,
-        d,
-    );
-    let flow = out.flow;
-    if let EmitFlow::None = flow {
-        if may_be_zbb(instr) {
-            return emit_zbb(out, words, host, pc, instr);
-        }
+    let out = instr32::emit_native_instr(em, pc, instr, d);
+    if out.flow.is_none() && may_be_zbb(instr) {
+        return emit_zbb(out.em, instr);
     }
     out
 }
 
 // The words of a helper's call, after those that the inline emitter left.
 fn emit_term_helper(
-    em: InstrEmitter,
-    words: &mut [u32; INSTR_WORDS],
+    em: InstrEmitter<'_>,
     host: Host,
     pc: u64,
     instr: u32,
     emitted: u32,
-) -> Emitted
-    requires { (host.slot_offset ≤ max_slot_offset) × Narrow instr × (emitted ≤ max_instrs) × (held em words.old ≡ Calls.words host.slot_offset (emit_inline product host pc instr).calls) × InstrArray words.old }
-    ensures { Compiled host.slot_offset ((emit_inline product host pc instr).calls ++ (emit_term_helper host pc instr emitted).calls) (emit_term_helper host pc instr emitted).flow result words.new }
+) -> Emitted<'_>
+    requires { Narrow instr × (emitted ≤ max_instrs) × (held em ≡ alone host.slot_offset (emit_inline product host pc instr).calls) }
+    ensures { Compiled host.slot_offset ((emit_inline product host pc instr).calls ++ (emit_term_helper host pc instr emitted).calls) (emit_term_helper host pc instr emitted).flow result }
 {
     if instr % 4 != 3 {
         let low = (instr % 0x1_0000) as u16;
-        return term_helper::emit_native_term_helper16(em, words, host, pc, low, emitted);
+        return term_helper::emit_native_term_helper16(em, host, pc, low, emitted);
     }
     let d = isa::decode::decode32(instr);
-    term_helper::emit_native_term_helper32(em, words, host, pc, instr, d, emitted)
+    term_helper::emit_native_term_helper32(em, host, pc, instr, d, emitted)
 }
 
 // How many instructions a helper's emitter counts, and why the walk stops there, by its flow.
-fn helped(flow: EmitFlow) -> u32
+#[tactic(auto, unfolding(crate::specs::Parts::helped_count))]
+fn helped(flow: Option<EmitFlow>) -> u32
     ensures { result ≡ helped_count flow }
 {
-    if let EmitFlow::Terminate = flow {
-        return 1;
+    match flow {
+        Some(EmitFlow::Terminate) => 1,
+        Some(EmitFlow::Continue) | None => 0,
     }
-    0
 }
 
-fn helper_stop(flow: EmitFlow) -> Stop
+#[tactic(auto, unfolding(crate::specs::Parts::helped_stop))]
+fn helper_stop(flow: Option<EmitFlow>) -> Stop
     ensures { result ≡ helped_stop flow }
 {
-    if let EmitFlow::Terminate = flow {
-        return Stop::Helper;
+    match flow {
+        Some(EmitFlow::Terminate) => Stop::Helper,
+        Some(EmitFlow::Continue) | None => Stop::Uncovered,
     }
-    Stop::Uncovered
 }
 
 // Whether after `len` of `all` words there is no room for one more instruction and the end.
@@ -157,55 +137,30 @@ fn lacks_room(len: usize, all: usize) -> bool
     requires { inline_words + end_words ≤ all }
     ensures { (result ≡ true → all < len + (inline_words + end_words)) × (result ≡ false → len + (inline_words + end_words) ≤ all) }
 {
-    if all - INLINE_WORDS - END_WORDS < len {
-        return true;
-    }
-    false
+    all - INLINE_WORDS - END_WORDS < len
 }
 
 // Whether the walk stopped for want of room: neither an instruction nor the limit stopped it.
+#[tactic(auto, unfolding(crate::specs::Parts::is_full))]
 fn is_full(stop: Stop, fence: bool, n: u32, most: u32) -> bool
     ensures { result ≡ is_full stop «fence» n most }
 {
-    if let Stop::Limit = stop {
-        if fence {
-            return false;
-        }
-        return n != most;
-    }
-    false
+    stop == Stop::Limit && !fence && n != most
 }
 
 // Whether the end of a block sets the next PC, and whether there is an end.
+#[tactic(auto, unfolding(crate::specs::Parts::sets_next))]
 fn sets_next(stop: Stop) -> bool
     ensures { result ≡ sets_next stop }
 {
-    if let Stop::Helper = stop {
-        return false;
-    }
-    if let Stop::Ended = stop {
-        return false;
-    }
-    true
+    !matches!(stop, Stop::Helper | Stop::Ended)
 }
 
+#[tactic(auto, unfolding(crate::specs::Parts::has_return))]
 fn has_return(stop: Stop) -> bool
     ensures { result ≡ has_return stop }
 {
-    if let Stop::Helper = stop {
-        return false;
-    }
-    true
-}
-
-pub fn clamped(limit: u32) -> u32
-    ensures { result ≡ min limit max_instrs }
-{
-    if limit < MAX_INSTRS {
-        limit
-    } else {
-        MAX_INSTRS
-    }
+    stop != Stop::Helper
 }
 
 // FENCE.I: MISC-MEM with funct3 1.
@@ -215,37 +170,11 @@ fn is_fence_i(instr: u32) -> bool
     instr % 128 == isa::OPCODE_MISC_MEM && instr / 4096 % 8 == isa::F3_FENCE_I
 }
 
-fn stopped(len: usize, i: usize, n: u32, stop: Stop, fence: bool, full: bool) -> Walked
-    ensures { result ≡ record { len = len; i = i; n = n; stop = stop; fence = fence; full = full } }
-{
-    Walked {
-        len,
-        i,
-        n,
-        stop,
-        fence,
-        full,
-    }
-}
-
-fn at_start() -> Walked
-    ensures { (result.len ≡ 0) × (result.i ≡ 0) × (result.n ≡ 0) }
-{
-    Walked {
-        len: 0,
-        i: 0,
-        n: 0,
-        stop: Stop::Limit,
-        fence: false,
-        full: false,
-    }
-}
-
 // The instructions after those of `from`, at most `most` in all and none after FENCE.I: each by itself, its words
 // appended, until there is no room for one more and the end.
 fn walk(words: &mut [u32], guest: &[u8], start: u64, from: Walked, most: u32, host: Host) -> Walked
     requires { (inline_words + end_words ≤ length words.old) × (host.slot_offset ≤ max_slot_offset) × (most ≤ max_instrs) × Walking host guest.now start most words.old from.len from.i from.n }
-    ensures { Onward host guest.now start most (length words.old) from.n words.new result }
+    ensures { Onward host guest.now start most from.n words.new result }
 {
     let mut len: usize = from.len;
     let mut i: usize = from.i;
@@ -256,86 +185,68 @@ fn walk(words: &mut [u32], guest: &[u8], start: u64, from: Walked, most: u32, ho
         if lacks_room(len, words.len()) || n == most {
             break Stop::Limit;
         }
-        let pc = std::num::wrapping_add_u64(start, i as u64);
-        let found = fetch(guest, start, pc);
-        if found.size == 0 {
+        let pc = start.wrapping_add(i as u64);
+        let Some(instr) = fetch(guest, start, pc) else {
             break Stop::NotFetched;
-        }
-        let out = emit_native(&mut part, host, pc, found.instr);
-        let flow = out.flow;
-        if let EmitFlow::None = flow {
-            let left = out.em;
-            let helper = emit_term_helper(left, &mut part, host, pc, found.instr, n);
-            len = a64_emitter::append_at(words, len, &part, helper.em.len);
+        };
+        let out = emit_native(&mut part, host, pc, instr);
+        let Some(flow) = out.flow else {
+            let helper = emit_term_helper(out.em, host, pc, instr, n);
             let taken = helper.flow;
+            len = helper.em.append_to(words, len);
             n += helped(taken);
             break helper_stop(taken);
-        }
-        len = a64_emitter::append_at(words, len, &part, out.em.len);
-        i += found.size;
+        };
+        len = out.em.append_to(words, len);
+        i += size_of(instr);
         n += 1;
         if let EmitFlow::Terminate = flow {
             break Stop::Ended;
         }
-        if is_fence_i(found.instr) {
+        if is_fence_i(instr) {
             fence = true;
             break Stop::Limit;
         }
     };
-    stopped(len, i, n, stop, fence, is_full(stop, fence, n, most))
+    let full = is_full(stop, fence, n, most);
+    Walked {
+        len,
+        i,
+        n,
+        stop,
+        fence,
+        full,
+    }
 }
 
-fn walk_short(
-    words: &mut [u32; SHORT_WORDS],
+// The block from `start` on, of at most `most` instructions, in a short emitter: the words of its instructions, then its
+// end; or, where it is full, the words so far.
+pub fn compile_native_block(
     guest: &[u8],
     start: u64,
-    from: Walked,
     most: u32,
     host: Host,
-) -> Walked
-    requires { (length words.old ≡ short_words) × (host.slot_offset ≤ max_slot_offset) × (most ≤ max_instrs) × Walking host guest.now start most words.old from.len from.i from.n }
-    ensures { Onward host guest.now start most short_words from.n words.new result }
-{
-    walk(words, guest, start, from, most, host)
-}
-
-fn walk_long(
-    words: &mut [u32; MAX_WORDS],
-    guest: &[u8],
-    start: u64,
-    from: Walked,
-    most: u32,
-    host: Host,
-) -> Walked
-    requires { (length words.old ≡ max_words) × (host.slot_offset ≤ max_slot_offset) × (most ≤ max_instrs) × Walking host guest.now start most words.old from.len from.i from.n }
-    ensures { Onward host guest.now start most max_words from.n words.new result }
-{
-    walk(words, guest, start, from, most, host)
-}
-
-fn move_long(words: &mut [u32; MAX_WORDS], from: &[u32; SHORT_WORDS], len: usize)
-    requires { (length words.old ≡ max_words) × (length from.now ≡ short_words) × (len ≤ short_words) }
-    ensures { Copied from.now len max_words words.new }
-{
-    a64_emitter::copy_front(words, from, len);
-}
-
-// The block from `start` on, of at most `most` instructions, in the short emitter: the words of its instructions,
-// then its end; or, where it is full, the words so far.
-pub fn compile_native_block(guest: &[u8], start: u64, most: u32, host: Host) -> ShortBlock
+) -> NativeBlock<SHORT_WORDS>
     requires { (host.slot_offset ≤ max_slot_offset) × (most ≤ max_instrs) }
     ensures { ShortOf host guest.now start most result }
 {
     let mut em = ShortEmitter::new();
-    let from = at_start();
-    let done = walk_short(&mut em.words, guest, start, from, most, host);
+    let from = Walked {
+        len: 0,
+        i: 0,
+        n: 0,
+        stop: Stop::Limit,
+        fence: false,
+        full: false,
+    };
+    let done = walk(&mut em.words, guest, start, from, most, host);
     em.len = done.len;
     let stop = done.stop;
-    let next = std::num::wrapping_add_u64(start, done.i as u64);
+    let next = start.wrapping_add(done.i as u64);
     let em = em.mov_imm64_if(sets_next(stop), 0, next);
     let em = em.mov_imm64_if(has_return(stop), 1, done.n as u64);
     let em = em.emit_if(has_return(stop), A64Emitter::ret());
-    ShortBlock { em, done }
+    NativeBlock { em, done }
 }
 
 // The whole of a block whose words so far, `before`, filled the short emitter.
@@ -346,17 +257,17 @@ pub fn continue_native_block(
     start: u64,
     most: u32,
     host: Host,
-) -> NativeBlock
-    requires { (length before.now ≡ short_words) × (host.slot_offset ≤ max_slot_offset) × (most ≤ max_instrs) × Partly host guest.now start most before.now from }
+) -> NativeBlock<MAX_WORDS>
+    requires { (host.slot_offset ≤ max_slot_offset) × (most ≤ max_instrs) × Partly host guest.now start most before.now from }
     ensures { LongOf host guest.now start most result }
 {
     let mut long = A64Emitter::new();
     // as many as there can be: a test of their number would bring a copy of the long emitter
-    move_long(&mut long.words, before, SHORT_INSTRS * INLINE_WORDS);
-    let done = walk_long(&mut long.words, guest, start, from, most, host);
+    a64_emitter::copy_front(&mut long.words, before, SHORT_INSTRS * INLINE_WORDS);
+    let done = walk(&mut long.words, guest, start, from, most, host);
     long.len = done.len;
     let stop = done.stop;
-    let after = std::num::wrapping_add_u64(start, done.i as u64);
+    let after = start.wrapping_add(done.i as u64);
     let long = long.mov_imm64_if(sets_next(stop), 0, after);
     let long = long.mov_imm64_if(has_return(stop), 1, done.n as u64);
     let em = long.emit_if(has_return(stop), A64Emitter::ret());

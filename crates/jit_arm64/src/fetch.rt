@@ -1,57 +1,36 @@
-// The instruction at a PC, read from the guest bytes as a fetch window.
+// The instruction at a PC, read from the guest bytes as a fetch window; none where a halfword is missing.
 ghost use Rattle.std.specs.Prelude.{◌≡◌, ◌+◌, ◌≤◌, true, length};
-ghost use Rattle.std.proofs.Math.Option.{none};
 ghost use Rattle.fetch_window.specs.Parts.{index};
-ghost use Rattle.jit_arm64.specs.Block.{half, is_32, fetch_upper, fetch};
-ghost use Rattle.jit_arm64.specs.Parts.{fetched, FetchedOf};
+ghost use Rattle.jit_arm64.specs.Block.{half, is_32, size_of, fetch_upper, fetch};
+ghost use Rattle.jit_arm64.specs.Parts.{FetchedOf};
 
-use fetch_window::{Halfword, read_u16};
+use fetch_window::read_u16;
 
-// An instruction and its length in bytes; 0 for both where a halfword is missing.
-#[derive(Drop)]
-pub struct Fetched {
-    pub size: usize,
-    pub instr: u32,
-}
-
-fn missing() -> Fetched
-    ensures { result ≡ fetched none }
+// An instruction's length in bytes.
+pub fn size_of(instr: u32) -> usize
+    ensures { result ≡ size_of instr }
 {
-    Fetched { size: 0, instr: 0 }
+    if instr % 4 == 3 { 4 } else { 2 }
 }
 
 // The 32-bit instruction whose lower halfword is `instr16`.
-fn fetch_upper(guest: &[u8], start: u64, pc: u64, instr16: u16) -> Fetched
+fn fetch_upper(guest: &[u8], start: u64, pc: u64, instr16: u16) -> Option<u32>
     requires { (index start pc + 2 ≤ length guest.now) × (instr16 ≡ half guest.now (index start pc)) × (is_32 instr16 ≡ true) }
     ensures { FetchedOf (fetch_upper guest.now (index start pc)) result }
 {
-    let found = read_u16(guest, start, std::num::wrapping_add_u64(pc, 2));
-    match found {
-        Halfword::Missing => missing(),
-        Halfword::Found(upper) => Fetched {
-            size: 4,
-            instr: upper as u32 * 65536 + instr16 as u32,
-        },
-    }
+    let upper = read_u16(guest, start, pc.wrapping_add(2))?;
+    Some(upper as u32 * 65536 + instr16 as u32)
 }
 
-pub fn fetch(guest: &[u8], start: u64, pc: u64) -> Fetched
+pub fn fetch(guest: &[u8], start: u64, pc: u64) -> Option<u32>
     ensures { FetchedOf (fetch pc guest.now (index start pc)) result }
 {
     if pc % 2 == 1 {
-        return missing();
+        return None;
     }
-    let found = read_u16(guest, start, pc);
-    match found {
-        Halfword::Missing => missing(),
-        Halfword::Found(instr16) => {
-            if instr16 % 4 == 3 {
-                return fetch_upper(guest, start, pc, instr16);
-            }
-            Fetched {
-                size: 2,
-                instr: instr16 as u32,
-            }
-        }
+    let instr16 = read_u16(guest, start, pc)?;
+    if instr16 % 4 == 3 {
+        return fetch_upper(guest, start, pc, instr16);
     }
+    Some(instr16 as u32)
 }

@@ -1,8 +1,8 @@
 // Document 02's listing: List on what standard input holds.
 #![tactic(auto)]
 
-use listing::Listed;
-use rules::refusals;
+use listing::ListRefusal;
+use rules::refusals::Refusal;
 use std::io;
 use std::io::{Read, Write};
 
@@ -13,26 +13,21 @@ const MOST: usize = 65536;
 const ROOM: usize = MOST / 4 * rules::LONGEST_LINE;
 
 // The number; beside 13 the offset too, as in a line.
-fn print_refusal(rt: &impl Print, answer: &Listed) -> io::Result<()> {
-    let number = answer.refusal;
-    if number == refusals::OUTSIDE_FORMS as u64 {
-        println!(rt; "refused {number} {:08x}", answer.offset)
-    } else {
-        println!(rt; "refused {number}")
+fn print_refusal(rt: &impl Print, refusal: ListRefusal) -> io::Result<()> {
+    let number = u32::from(Refusal::from(refusal));
+    match refusal {
+        ListRefusal::OutsideForms(offset) => println!(rt; "refused {number} {offset:08x}"),
+        ListRefusal::Length | ListRefusal::Short => println!(rt; "refused {number}"),
     }
 }
 
 // The lines, by way of the output; or the refusal.
 fn print_listing(rt: &impl Print, block: &[u8], output: &mut [u8]) -> io::Result<()> {
-    let answer = listing::list(block, output);
-    if answer.refusal != 0 {
-        return print_refusal(rt, &answer);
+    match listing::list(block, output) {
+        Ok(length) if length <= output.len() => io::writer(rt).write_all(&output[..length]),
+        Ok(_) => Ok(()),
+        Err(refusal) => print_refusal(rt, refusal),
     }
-    let length = answer.length as usize;
-    if length <= output.len() {
-        io::writer(rt).write_all(&output[..length])?;
-    }
-    Ok(())
 }
 
 fn main(rt: HostRuntime) -> io::Result<()> {

@@ -1,7 +1,8 @@
 // Replays List: blocks whose words GNU as made of the lines' texts (machines/README.md has the format).
 #![tactic(auto)]
 
-use listing::Listed;
+use listing::ListRefusal;
+use rules::refusals::Refusal;
 use std::io;
 
 // Every byte of an output before List; no line has it.
@@ -15,25 +16,27 @@ const MOST: usize = 1024;
 
 const SHORT: u64 = 14;
 
-fn answer_of(refusal: u64, length: u64, offset: u64) -> Listed {
-    Listed {
-        refusal,
-        length,
-        offset,
+// An answer as numbers: the refusal, the length, the offset.
+type Numbers = (u64, u64, u64);
+
+fn numbers(answer: Result<usize, ListRefusal>) -> Numbers {
+    match answer {
+        Ok(length) => (0, length as u64, 0),
+        Err(refusal) => (
+            u64::from(Refusal::from(refusal)),
+            0,
+            refusal.offset() as u64,
+        ),
     }
 }
 
 // Whether List gives this answer, and leaves the expected bytes.
-fn lists(block: &[u8], answer: &Listed, output: &mut [u8], expected: &[u8]) -> bool {
-    let found = listing::list(block, output);
-    found.refusal == answer.refusal
-        && found.length == answer.length
-        && found.offset == answer.offset
-        && &*output == expected
+fn lists(block: &[u8], answer: Numbers, output: &mut [u8], expected: &[u8]) -> bool {
+    numbers(listing::list(block, output)) == answer && &*output == expected
 }
 
 // The output has as many bytes as are expected.
-fn agrees(block: &[u8], answer: &Listed, expected: &[u8]) -> bool {
+fn agrees(block: &[u8], answer: Numbers, expected: &[u8]) -> bool {
     let room = expected.len();
     if room > ROOM {
         return false;
@@ -51,7 +54,7 @@ fn short(block: &[u8], length: usize) -> bool {
         return false;
     }
     let untouched = [FILL; ROOM];
-    agrees(block, &answer_of(SHORT, 0, 0), &untouched[..length - 1])
+    agrees(block, (SHORT, 0, 0), &untouched[..length - 1])
 }
 
 // Reads the recorded lines to the front of `expected`, and says whether the file has them all.
@@ -69,19 +72,15 @@ fn accepted(block: &[u8], expected: &[u8], length: usize) -> bool {
         return false;
     }
     let lines = &expected[..length];
-    let answer = answer_of(0, length as u64, 0);
-    agrees(block, &answer, expected) && agrees(block, &answer, lines) && short(block, length)
+    let answer = (0, length as u64, 0);
+    agrees(block, answer, expected) && agrees(block, answer, lines) && short(block, length)
 }
 
 // No byte changes, also where the output has none.
 fn refused(block: &[u8], refusal: u64, offset: u64) -> bool {
     let untouched = [FILL; ROOM];
-    let answer = answer_of(refusal, 0, offset);
-    agrees(block, &answer, &untouched) && agrees(block, &answer, &untouched[..0])
-}
-
-fn wide(b: u8) -> u64 {
-    b as u64
+    let answer = (refusal, 0, offset);
+    agrees(block, answer, &untouched) && agrees(block, answer, &untouched[..0])
 }
 
 // Compares what List answers with what the file has after the block.
@@ -90,9 +89,9 @@ fn replay_block(file: &mut &[u8], block: &[u8]) -> bool {
     if replay::read_full(file, &mut found) < 7 {
         return false;
     }
-    let refusal = wide(found[0]);
-    let offset = le::load::<u32>(&found, 1) as u64;
-    let length = le::load::<u16>(&found, 5) as usize;
+    let refusal = u64::from(found[0]);
+    let offset = u64::from(le::load::<u32>(&found, 1));
+    let length = usize::from(le::load::<u16>(&found, 5));
     if refusal != 0 {
         return length == 0 && refused(block, refusal, offset);
     }
@@ -109,7 +108,7 @@ fn replay_case(file: &mut &[u8]) -> bool {
     if replay::read_full(file, &mut size) < 2 {
         return false;
     }
-    let n = le::load::<u16>(&size, 0) as usize;
+    let n = usize::from(le::load::<u16>(&size, 0));
     if n > MOST {
         return false;
     }

@@ -10,8 +10,7 @@ use borrow.Author.Tests.{ne_eqb, eq-eqb, lt-ltb, le-ltb}
 use Rattle.rules.specs.Limits.{longest_line}
 use Rattle.le.specs.Le.{words, splice}
 use Rattle.ascii.specs.Parts.{Put}
-use Rattle.listing.specs.declared.Listed.{Listed}
-use Rattle.listing.specs.Listing.{block_lines, listing, any_outside, result, list, Outside, Lists}
+use Rattle.listing.specs.Listing.{Listed, block_lines, listing, any_outside, result, list, Outside, Lists}
 use Rattle.listing.proofs.Lines.{rewritten}
 use Rattle.listing.proofs.Bound.{listing_bound}
 

@@ -1,2 +1,3 @@
+pub mod Refused
 pub mod Listing
 pub mod Parts

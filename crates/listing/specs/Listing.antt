@@ -1,5 +1,5 @@
 -- The operation List (document 02, No. 1): a block's words, one line each.
-use Rattle.std.specs.Prelude.{ℕ, ◌+◌, ◌*◌, ◌/◌, ◌%◌, ◌^◌, ◌≤◌, ◌<◌, ◌≡◌, Bool, true, false, cond, not, ◌||◌, List, [], ◌∷◌, ◌++◌, eqb, ltb, length, drop}
+use Rattle.std.specs.Prelude.{ℕ, ◌+◌, ◌*◌, ◌/◌, ◌%◌, ◌^◌, ◌≤◌, ◌<◌, ◌≡◌, Bool, true, false, cond, not, ◌||◌, List, [], ◌∷◌, ◌++◌, eqb, ltb, length, drop, Result, Ok, Err}
 use Rattle.rules.specs.Limits.{longest_line}
 use Rattle.rules.specs.Refusals as Refusals
 use Rattle.le.specs.Le.{words, load}
@@ -8,7 +8,8 @@ use Rattle.a64.specs.declared.Form.TheVariants.{DataProcessing, OneSource, Ldr, 
 use Rattle.a64.specs.Forms.{encode, decode}
 use Rattle.ascii.specs.Ascii.{ascii, hex}
 use Rattle.a64_text.specs.Text.{syntax, text}
-use Rattle.listing.specs.declared.Listed.{Listed}
+use Rattle.listing.specs.declared.refusals.ListRefusal.{ListRefusal}
+use Rattle.listing.specs.Refused as Refused
 
 -- a word, its byte offset in the block, and the form with the fields that were found
 pub record Line : Type 0 where
@@ -58,21 +59,21 @@ any_outside (l ∷ ls) = is_outside l.form || any_outside ls
 -- ---- the operation
 
 -- its refusal, the listing's length and the output's bytes afterwards
-pub record Result : Type 0 where
+pub record Outcome : Type 0 where
   pub refusal : ℕ
   pub length : ℕ
   pub output : List ℕ
 
-abbrev pub result : ℕ → ℕ → List ℕ → Result
+abbrev pub result : ℕ → ℕ → List ℕ → Outcome
 result n k output = record { refusal = n; length = k; output = output }
 
 -- the listing goes to the output's front
-abbrev pub fitted : List ℕ → List ℕ → Result
+abbrev pub fitted : List ℕ → List ℕ → Outcome
 fitted s output =
     cond (ltb (length output) (length s)) (result Refusals.listing_short 0 output)
     (result Refusals.accepted (length s) (s ++ drop (length s) output))
 
-unfoldable pub list : List ℕ → List ℕ → Result
+unfoldable pub list : List ℕ → List ℕ → Outcome
 unfolding lines listing any_outside
 list block output =
     cond (not (eqb (length block % 4) 0) || ltb (2 ^ 32) (length block)) (result Refusals.listing_length 0 output)
@@ -88,6 +89,18 @@ pub record Outside (block : List ℕ) (at : ℕ) : Type 0 where
 abbrev pub Rewritten : List Line → Type 0
 Rewritten [] = Unit {0}
 Rewritten (l ∷ ls) = (encode l.form ≡ l.word) × Rewritten ls
+
+-- an answer as numbers: the refusal, 0 where the lines were written; how many bytes they have; beside refusal 13 the
+-- offset of a word outside the forms
+pub record Listed : Type 0 where
+  pub refusal : ℕ
+  pub length : ℕ
+  pub offset : ℕ
+
+-- the code's
+abbrev pub answer : Result ℕ ListRefusal → Listed
+answer (Ok n) = record { refusal = Refusals.accepted; length = n; offset = 0 }
+answer (Err why) = record { refusal = Refused.refusal why; length = 0; offset = Refused.offset why }
 
 -- what List promises of a block and an output, its answer and the output afterwards
 pub record Lists (block output : List ℕ) (r : Listed) (output' : List ℕ) : Type 0 where

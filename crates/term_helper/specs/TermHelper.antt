@@ -33,7 +33,11 @@ call_exec helper pc instr prefix_count =
     ∷ mov_imm64 6 pc
     ∷ call_helper helper prefix_count
 
-unfoldable pub load_op : ℕ → Option ℕ
+-- the memory helper's operation, or none
+abbrev pub Operation : Type 0
+Operation = Option ℕ
+
+unfoldable pub load_op : ℕ → Operation
 load_op funct3 =
     cond (eqb funct3 F3_LB) (Some MEM_OP_LB)
     (cond (eqb funct3 F3_LH) (Some MEM_OP_LH)
@@ -44,7 +48,7 @@ load_op funct3 =
     (cond (eqb funct3 F3_LWU) (Some MEM_OP_LWU)
     None))))))
 
-unfoldable pub store_op : ℕ → Option ℕ
+unfoldable pub store_op : ℕ → Operation
 store_op funct3 =
     cond (eqb funct3 F3_SB) (Some MEM_OP_SB)
     (cond (eqb funct3 F3_SH) (Some MEM_OP_SH)
@@ -84,11 +88,11 @@ store_calls helper mem_op pc instr d prefix_count =
     ∷ mov_imm64 7 pc
     ∷ call_helper helper prefix_count
 
-abbrev pub with_load : Host → ℕ → ℕ → Decoded32 → ℕ → Option ℕ → Emission
+abbrev pub with_load : Host → ℕ → ℕ → Decoded32 → ℕ → Operation → Emission
 with_load h pc instr d prefix_count None = Calls.none []
 with_load h pc instr d prefix_count (Some mem_op) = terminate (load_calls h.memory_helper mem_op pc instr d prefix_count)
 
-abbrev pub with_store : Host → ℕ → ℕ → Decoded32 → ℕ → Option ℕ → Emission
+abbrev pub with_store : Host → ℕ → ℕ → Decoded32 → ℕ → Operation → Emission
 with_store h pc instr d prefix_count None = Calls.none []
 with_store h pc instr d prefix_count (Some mem_op) = terminate (store_calls h.memory_helper mem_op pc instr d prefix_count)
 

@@ -2,9 +2,10 @@
 #![tactic(auto)]
 
 use emit_native::Host;
+use rules::refusals::Refusal;
 use std::io;
 use std::io::Read;
-use translator::Answer;
+use translator::Translated;
 
 // How many bytes come before the guest bytes.
 const HEADER: usize = 13;
@@ -24,16 +25,24 @@ fn print_line(rt: &impl Print, number: u32) -> io::Result<()> {
     println!(rt; "{number}")
 }
 
-fn print_answer(rt: &impl Print, answer: &Answer, output: &[u8]) -> io::Result<()> {
-    if answer.refusal != 0 {
-        print!(rt; "refused ")?;
-        return print_line(rt, answer.refusal);
+fn print_answer(
+    rt: &impl Print,
+    answer: Result<Translated, Refusal>,
+    output: &[u8],
+) -> io::Result<()> {
+    match answer {
+        Err(refusal) => {
+            print!(rt; "refused ")?;
+            print_line(rt, u32::from(refusal))
+        }
+        Ok(block) => {
+            let length = block.length as usize;
+            if length <= output.len() {
+                print_words(rt, &output[..length])?;
+            }
+            print_line(rt, block.count)
+        }
     }
-    let length = answer.length as usize;
-    if length <= output.len() {
-        print_words(rt, &output[..length])?;
-    }
-    print_line(rt, answer.count)
 }
 
 // PC (8 bytes), limit (4), flag (1), then the guest bytes, of which at most 256 are read.
@@ -57,5 +66,5 @@ fn main(rt: HostRuntime) -> io::Result<()> {
     };
     let mut output = [0u8; 4 * rules::MAX_WORDS];
     let answer = translator::translate(&input[HEADER..], pc, limit, host, &mut output);
-    print_answer(&rt, &answer, &output)
+    print_answer(&rt, answer, &output)
 }

@@ -18,6 +18,7 @@ use Rattle.rv64.specs.Alu.{value}
 use Rattle.rv64.specs.Execute.{read, write, exec}
 use Rattle.rvc.specs.Compressed as C
 use Rattle.emit_native.specs.declared.EmitFlow.{EmitFlow}
+use Rattle.std.specs.Prelude.{Some}
 use Rattle.emit_native.specs.Hart.{not_1}
 use Rattle.a64_emitter.specs.Writers.{and_x, orr_x}
 use Rattle.emit_native.specs.Calls.{emit, mov_imm64, load, store, Emission, continue, terminate, none, calls_first, store_rd}
@@ -30,7 +31,7 @@ use Rattle.translation.proofs.Instrs.{Agrees, nothing, two, body_fine, condition
 use Rattle.translation.proofs.Agree32.{digit}
 
 -- the store of a register that is not 0
-stored : (d : ℕ) → (d ≡ 0 → ⊥) → store_rd EmitFlow.Continue d ≡ store 11 d ∷ []
+stored : (d : ℕ) → (d ≡ 0 → ⊥) → store_rd (Some EmitFlow.Continue) d ≡ store 11 d ∷ []
 unfolding store_rd
 stored d h = rw (ne_eqb d 0 h)
 

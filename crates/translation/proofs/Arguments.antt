@@ -3,7 +3,6 @@ use mathlib.Core.Path.{◌≡◌, refl}
 use mathlib.Core.Bool.{Bool, true, false, cond}
 use mathlib.Core.Logic.{◌⊎◌, inl, inr}
 use mathlib.Core.List.{List, [], ◌∷◌, ◌++◌, map}
-use mathlib.Core.Option.{Option, none, some}
 use Prim.Native.Nat.{ℕ, zero, suc, ◌%◌, ◌^◌, ◌≤◌, ◌<◌}
 use native.Mathlib.Nat.{not-suc-le-zero, le_of_suc-le-suc}
 use native.Mathlib.Omega.{arith}
@@ -20,6 +19,7 @@ use Rattle.a64_emitter.specs.Writers.{add_x, ldr_x, str_x, sub_sp_imm, add_sp_im
 use Rattle.rv64.specs.Decode.{lookup, itself}
 use Rattle.rv64.specs.Execute.{read}
 use Rattle.emit_native.specs.declared.EmitFlow.{EmitFlow}
+use Rattle.std.specs.Prelude.{Some, None}
 use Rattle.emit_native.specs.declared.Host.{Host}
 use Rattle.emit_native.specs.Calls.{Call, emit, mov_imm64, load, if_not_0, Emission}
 use Rattle.emit_native.specs.Calls as Emitting
@@ -111,14 +111,14 @@ module _ (s : State) (v : Model) (κ : Kept (reg s) true v) (n pc : ℕ) (hp : p
 
   -- an emission that ends the block is arranged as c
   abbrev Takes : Emission → Spec.Call → Type 0
-  Takes e c = e.flow ≡ EmitFlow.Terminate → Arranged e.calls v n c
+  Takes e c = e.flow ≡ (Some EmitFlow.Terminate) → Arranged e.calls v n c
 
-  not_taken : {A : Type 0} → EmitFlow.None ≡ EmitFlow.Terminate → A
+  not_taken : {A : Type 0} → None ≡ (Some EmitFlow.Terminate) → A
   not_taken e = let y : ◌≡◌ {A = ℕ} 0 1 = cc in absurd (omega arith)
 
   -- the operation that the Rust finds, if any, is k
-  abbrev Finds : Option ℕ → ℕ → Type 0
-  Finds o k = (o ≡ none) ⊎ ((o ≡ some k) × (k < 2 ^ 64))
+  abbrev Finds : Th.Operation → ℕ → Type 0
+  Finds o k = (o ≡ None) ⊎ ((o ≡ Some k) × (k < 2 ^ 64))
 
   loads_are : (t : ℕ) → t < 8 → Finds (Th.load_op t) (lookup Spec.loads t itself 0)
   unfolding Th.load_op
@@ -133,8 +133,8 @@ module _ (s : State) (v : Model) (κ : Kept (reg s) true v) (n pc : ℕ) (hp : p
       digit (λ t. Finds (Th.store_op t) (lookup Spec.stores t itself 0))
       (inr (refl, omega arith)) (inr (refl, omega arith)) (inr (refl, omega arith)) (inr (refl, omega arith)) (inl refl) (inl refl) (inl refl) (inl refl)
 
-  found_takes : (make : Option ℕ → Emission) (o : Option ℕ) (k : ℕ) (c : Spec.Call) → (make none).flow ≡ EmitFlow.None
-      → (k < 2 ^ 64 → Takes (make (some k)) c) → Finds o k → Takes (make o) c
+  found_takes : (make : Th.Operation → Emission) (o : Th.Operation) (k : ℕ) (c : Spec.Call) → (make None).flow ≡ None
+      → (k < 2 ^ 64 → Takes (make (Some k)) c) → Finds o k → Takes (make o) c
   found_takes make o k c e f (inl p) = rw (p, e) (λ t. not_taken t)
   found_takes make o k c e f (inr (p, l)) = rw p (f l)
 
@@ -153,7 +153,7 @@ module _ (s : State) (v : Model) (κ : Kept (reg s) true v) (n pc : ℕ) (hp : p
     pub takes32 : w < 2 ^ 32 → eqb (w % 4) 3 ≡ true → Takes32
     unfolding Th.emit_native_term_helper32 Th.opcode_helper Th.load_helper Th.store_helper
     takes32 hw e =
-        let general : EmitFlow.Terminate ≡ EmitFlow.Terminate → Arranged (Th.call_exec h.helper32 pc w n) v n (Spec.general h.helper32 s w pc) =
+        let general : (Some EmitFlow.Terminate) ≡ (Some EmitFlow.Terminate) → Arranged (Th.call_exec h.helper32 pc w n) v n (Spec.general h.helper32 s w pc) =
         λ t. general-call h.helper32 w h32 (omega arith) in
         is Takes32 0x73 (λ q. rw (e, q) (λ t. not_taken t)) (λ a.
         is Takes32 0x03 (λ q. rw (e, a, q) (found_takes (Th.with_load h pc w (Rust.decode32 w) n) _ _ _ refl (λ l t. load-call h.memory_helper _ w hm l hw) (loads_are (funct3 w) (omega arith)))) (λ b.

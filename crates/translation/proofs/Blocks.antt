@@ -25,6 +25,7 @@ use Rattle.rv64.specs.Decode as D
 use Rattle.rvc.specs.Compressed as C
 use Rattle.rv64_run.specs.Run as Rv64
 use Rattle.emit_native.specs.declared.EmitFlow.{EmitFlow}
+use Rattle.std.specs.Prelude.{Some, None}
 use Rattle.emit_native.specs.declared.Host.{Host}
 use Rattle.jit_arm64.specs.declared.block.Stop.{Stop}
 use Rattle.emit_native.specs.Calls.{Call, mov_imm64, product, Emission}
@@ -100,7 +101,7 @@ pub record Taken (host : Host) (guest : List ℕ) (start pc n : ℕ) (h : Emissi
   pub at : pc ≡ add start index
   pub found : fetch pc guest index ≡ some instr
   pub is : h ≡ emit_term_helper host pc instr n
-  pub flow : h.flow ≡ EmitFlow.Terminate
+  pub flow : h.flow ≡ (Some EmitFlow.Terminate)
 
 -- the walk ends in a helper, before whose instruction the guest's run stands
 pub record Helps (host : Host) (guest : List ℕ) (start : ℕ) (w : Walk) (v : Model) (r : Ran) : Type 0 where
@@ -139,15 +140,15 @@ stop_walks cs n pc why rwhy v e φ h =
 -- ---- the helper's emitter takes the instruction, or makes no call
 
 abbrev Quiet : Emission → Type 0
-Quiet h = (h.flow ≡ EmitFlow.Terminate) ⊎ (h ≡ Calls.none [])
+Quiet h = (h.flow ≡ (Some EmitFlow.Terminate)) ⊎ (h ≡ Calls.none [])
 
-load_quiet : (h : Host) (pc w n : ℕ) (d : Decoded32) (o : Option ℕ) → Quiet (Th.with_load h pc w d n o)
-load_quiet h pc w n d none = inr refl
-load_quiet h pc w n d (some k) = inl refl
+load_quiet : (h : Host) (pc w n : ℕ) (d : Decoded32) (o : Th.Operation) → Quiet (Th.with_load h pc w d n o)
+load_quiet h pc w n d None = inr refl
+load_quiet h pc w n d (Some k) = inl refl
 
-store_quiet : (h : Host) (pc w n : ℕ) (d : Decoded32) (o : Option ℕ) → Quiet (Th.with_store h pc w d n o)
-store_quiet h pc w n d none = inr refl
-store_quiet h pc w n d (some k) = inl refl
+store_quiet : (h : Host) (pc w n : ℕ) (d : Decoded32) (o : Th.Operation) → Quiet (Th.with_store h pc w d n o)
+store_quiet h pc w n d None = inr refl
+store_quiet h pc w n d (Some k) = inl refl
 
 quiet_by : (a b c d e f : Bool) (l s k : Emission) → Quiet l → Quiet s → Quiet k
     → Quiet (cond a (Calls.none []) (cond b l (cond c s (cond d k (cond e k (cond f k (Calls.none [])))))))
@@ -183,7 +184,7 @@ helps Flow.Helper = 1
 helps Flow.Uncovered = 0
 
 -- the helper's emitter takes what the guest's run leaves to a helper
-exec_helps : (i : Instr) (n pc : ℕ) (x : List ℕ) (t : EmitFlow) → took t ≡ sort i → took t ≡ helps (exec i n pc x).flow
+exec_helps : (i : Instr) (n pc : ℕ) (x : List ℕ) (t : Calls.Flow) → took t ≡ sort i → took t ≡ helps (exec i n pc x).flow
 unfolding exec sort
 exec_helps (Instr.Op k d a b) n pc x t e = e
 exec_helps (Instr.OpImm k d a c) n pc x t e = e
@@ -195,16 +196,16 @@ exec_helps (Instr.Jal d c) n pc x t e = e
 exec_helps (Instr.Jalr d a c) n pc x t e = e
 exec_helps (Instr.Branch k a b c) n pc x t e = e
 exec_helps Instr.Nop n pc x t e = e
-exec_helps Instr.FenceI n pc x EmitFlow.Continue e = absurd (omega arith)
-exec_helps Instr.FenceI n pc x EmitFlow.Terminate e = absurd (omega arith)
-exec_helps Instr.FenceI n pc x EmitFlow.None e = absurd (omega arith)
+exec_helps Instr.FenceI n pc x (Some EmitFlow.Continue) e = absurd (omega arith)
+exec_helps Instr.FenceI n pc x (Some EmitFlow.Terminate) e = absurd (omega arith)
+exec_helps Instr.FenceI n pc x None e = absurd (omega arith)
 exec_helps Instr.Helper n pc x t e = e
 exec_helps Instr.Uncovered n pc x t e = e
 
-took_one : (t : EmitFlow) → took t ≡ 1 → t ≡ EmitFlow.Terminate
-took_one EmitFlow.Continue e = absurd (omega arith)
-took_one EmitFlow.Terminate e = refl
-took_one EmitFlow.None e = absurd (omega arith)
+took_one : (t : Calls.Flow) → took t ≡ 1 → t ≡ (Some EmitFlow.Terminate)
+took_one (Some EmitFlow.Continue) e = absurd (omega arith)
+took_one (Some EmitFlow.Terminate) e = refl
+took_one None e = absurd (omega arith)
 
 -- ---- fetching
 
@@ -243,20 +244,20 @@ module _ (r₀ : ℕ → ℕ) (start : ℕ) (host : Host) (guest : List ℕ) whe
   record Offer (pc n : ℕ) (f : Flow) (h : Emission) : Type 0 where
     quiet : Quiet h
     agrees : took h.flow ≡ helps f
-    taken : h.flow ≡ EmitFlow.Terminate → Taken host guest start pc n h
+    taken : h.flow ≡ (Some EmitFlow.Terminate) → Taken host guest start pc n h
 
   uncovered_walks : (e h : Emission) (size i n : ℕ) (v : Model) (rest : ℕ → ℕ → Walk) → Quiet h → took h.flow ≡ 0 → Fine e.calls
-      → Walks (step EmitFlow.None e h size start n i rest) v (Rv64.stopped (Rv64.hart v.slots (add start i)) n RS.Stop.Uncovered)
+      → Walks (step None e h size start n i rest) v (Rv64.stopped (Rv64.hart v.slots (add start i)) n RS.Stop.Uncovered)
   unfolding step helped next_calls
   uncovered_walks e h size i n v rest (inl p) o φ = absurd (omega (arith, rw p at o))
   uncovered_walks e h size i n v rest (inr p) o φ =
       rw (p, append-nil e.calls) (stop_walks e.calls n (add start i) Stop.Uncovered RS.Stop.Uncovered v refl φ (omega arith))
 
   helper_walks : (e h : Emission) (size i n : ℕ) (v : Model) (rest : ℕ → ℕ → Walk) → Offer (add start i) n Flow.Helper h → Fine e.calls
-      → Helps host guest start (step EmitFlow.None e h size start n i rest) v (Rv64.stopped (Rv64.hart v.slots (add start i)) n RS.Stop.Helper)
+      → Helps host guest start (step None e h size start n i rest) v (Rv64.stopped (Rv64.hart v.slots (add start i)) n RS.Stop.Helper)
   unfolding step helped
   helper_walks e h size i n v rest o φ =
-      let p : h.flow ≡ EmitFlow.Terminate = took_one h.flow o.agrees in
+      let p : h.flow ≡ (Some EmitFlow.Terminate) = took_one h.flow o.agrees in
       rw p
       (record {
         stop = refl;

@@ -8,6 +8,8 @@ use native.Mathlib.Omega.{arith}
 use lib.Dec.{eqb}
 use Rattle.word.specs.Word.{add}
 use Rattle.emit_native.specs.declared.EmitFlow.{EmitFlow}
+use Rattle.std.specs.Prelude.{Some, None}
+use Rattle.emit_native.specs.Calls as Calls
 use Rattle.emit_native.specs.declared.Host.{Host}
 use Rattle.emit_native.specs.Calls.{Call, product, Emission}
 use Rattle.emit_native.proofs.Size.{by}
@@ -35,11 +37,11 @@ narrow w h = by (is_fence_i w) (λ f. absurd (true≢false (rw (fence_wide w f) 
 pub never : {A : Type 0} (m : ℕ) → ◌≡◌ {A = Option ℕ} none (some m) → A
 never m e = let z : ◌≡◌ {A = ℕ} 0 1 = cc in absurd (omega arith)
 
-pub helped_most : (f : EmitFlow) (cs : List Call) (n pc : ℕ) → (helped f cs n pc).count ≤ suc n
+pub helped_most : (f : Calls.Flow) (cs : List Call) (n pc : ℕ) → (helped f cs n pc).count ≤ suc n
 unfolding helped
-helped_most EmitFlow.Continue cs n pc = omega arith
-helped_most EmitFlow.Terminate cs n pc = omega arith
-helped_most EmitFlow.None cs n pc = omega arith
+helped_most (Some EmitFlow.Continue) cs n pc = omega arith
+helped_most (Some EmitFlow.Terminate) cs n pc = omega arith
+helped_most None cs n pc = omega arith
 
 module _ (h : Host) (guest : List ℕ) (start limit most : ℕ) where
   -- the FENCE.I o leaves so many instructions after n others; that walk w is the one with `to` left, and its limit
@@ -77,16 +79,16 @@ module _ (h : Host) (guest : List ℕ) (start limit most : ℕ) where
   module _ (k n : ℕ) (hk : min limit most ≡ suc n + k)
       (go : (j m : ℕ) → (walk product h guest start k (suc n) j).count ≡ suc n + m
       → Left (to_fence guest start m (suc n) j) (suc n) (λ (l : ℕ). walk product h guest start l (suc n) j) (cut guest start k j)) where
-    step_cut : (f : EmitFlow) (e helper : Emission) (size i m : ℕ) → (step f e helper size start n i (walk product h guest start k)).count ≡ n + m
+    step_cut : (f : Calls.Flow) (e helper : Emission) (size i m : ℕ) → (step f e helper size start n i (walk product h guest start k)).count ≡ n + m
         → Left (after m n (i + size)) (suc n) (λ (l : ℕ). step f e helper size start n i (walk product h guest start l)) (cut guest start k (i + size))
     unfolding step after limit_at
-    step_cut EmitFlow.Continue e helper size i zero c = absurd (omega (arith, walk-count product h guest start k (suc n) (i + size), c))
-    step_cut EmitFlow.Continue e helper size i (suc m) c =
+    step_cut (Some EmitFlow.Continue) e helper size i zero c = absurd (omega (arith, walk-count product h guest start k (suc n) (i + size), c))
+    step_cut (Some EmitFlow.Continue) e helper size i (suc m) c =
         let y = go (i + size) m (omega (arith, c)) in
         record { left = y.left; is = y.is; same = ap (in_front e.calls) y.same; ends = y.ends }
-    step_cut EmitFlow.Terminate e helper size i m c =
+    step_cut (Some EmitFlow.Terminate) e helper size i m c =
         rw (few m n (i + size) (omega (arith, c))) (record { left = k; is = hk; same = refl; ends = λ j. never j })
-    step_cut EmitFlow.None e helper size i m c =
+    step_cut None e helper size i m c =
         let l = helped_most helper.flow (e.calls ++ helper.calls) n (add start i) in
         rw (few m n (i + size) (omega (arith, c, l))) (record { left = k; is = hk; same = refl; ends = λ j. never j })
 

@@ -22,6 +22,8 @@ use Rattle.isa.proofs.ZbbRows.{opcode_of}
 use Rattle.jit_arm64.specs.Fence.{is_fence_i}
 use Rattle.term_helper.specs.TermHelper as Th
 use Rattle.emit_native.specs.declared.EmitFlow.{EmitFlow}
+use Rattle.std.specs.Prelude.{Some, None}
+use Rattle.emit_native.specs.Calls as Calls
 use Rattle.translation.proofs.Agree32.{digit}
 
 -- 1 for what is a helper's, 2 for FENCE.I, else 0
@@ -41,10 +43,10 @@ sort Instr.Helper = 1
 sort Instr.Uncovered = 0
 
 -- the helper's emitter answered `true`
-abbrev pub took : EmitFlow → ℕ
-took EmitFlow.Continue = 0
-took EmitFlow.Terminate = 1
-took EmitFlow.None = 0
+abbrev pub took : Calls.Flow → ℕ
+took (Some EmitFlow.Continue) = 0
+took (Some EmitFlow.Terminate) = 1
+took None = 0
 
 -- ---- instructions that are neither
 

@@ -20,6 +20,7 @@ use Rattle.rv64.specs.declared.execute.Flow.{Flow}
 use Rattle.rv64.specs.Alu.{value, taken}
 use Rattle.rv64.specs.Execute.{read, write, exec}
 use Rattle.emit_native.specs.declared.EmitFlow.{EmitFlow}
+use Rattle.std.specs.Prelude.{Some, None}
 use Rattle.emit_native.specs.Hart.{C_EQ, C_NE, C_CS, C_CC, C_GE, C_LT, not_1}
 use Rattle.a64_emitter.specs.Writers.{add_x, and_x, cmp_x, csel_x}
 use Rattle.emit_native.specs.Calls.{Call, emit, mov_imm64, load, store, if_not_0, Emission, continue, terminate, none, calls_first, store_rd, then_store_rd}
@@ -69,20 +70,20 @@ pub record Does (cs : List Call) (v : Model) (rs : List ℕ) : Type 0 where
 
 -- goes on to the next instruction
 pub record Continues (n pc : ℕ) (v : Model) (x : List ℕ) (to : ℕ) (e : Emission) : Type 0 where
-  pub flow : e.flow ≡ EmitFlow.Continue
+  pub flow : e.flow ≡ (Some EmitFlow.Continue)
   pub does : Does e.calls v x
   pub stay : T (all_keep true e.calls)
   pub next : to ≡ add pc n
 
 -- ends the block, with the next PC in X0
 pub record Terminates (v : Model) (x : List ℕ) (to : ℕ) (e : Emission) : Type 0 where
-  pub flow : e.flow ≡ EmitFlow.Terminate
+  pub flow : e.flow ≡ (Some EmitFlow.Terminate)
   pub does : Does e.calls v x
   pub next : (calls-run e.calls v).r 0 ≡ to
 
 -- is not inline, and leaves at most scratch words
 pub record Leaves (e : Emission) : Type 0 where
-  pub flow : e.flow ≡ EmitFlow.None
+  pub flow : e.flow ≡ None
   pub fine : Fine e.calls
 
 abbrev pub Matches : ℕ → ℕ → Model → List ℕ → Flow → Emission → Type 0

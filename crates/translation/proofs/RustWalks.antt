@@ -7,6 +7,8 @@ use native.Mathlib.Omega.{arith}
 use Rattle.word.specs.Word.{add}
 use Rattle.isa.specs.declared.zbb.Found.{Found}
 use Rattle.emit_native.specs.declared.EmitFlow.{EmitFlow}
+use Rattle.std.specs.Prelude.{Some, None}
+use Rattle.emit_native.specs.Calls as Calls
 use Rattle.emit_native.specs.declared.Host.{Host}
 use Rattle.emit_native.specs.Calls.{Dialect, rust, product, store_rd, Emission}
 use Rattle.emit_native.proofs.Size.{by}
@@ -24,15 +26,15 @@ module _ (h : Host) (guest : List ℕ) (start : ℕ) where
 
   module _ (k n : ℕ)
       (same : (j : ℕ) → ZbbFree guest start ((walk product h guest start k (suc n) j).count - suc n) j → walk rust h guest start k (suc n) j ≡ walk product h guest start k (suc n) j) where
-    step_same : (f : EmitFlow) (e helper : Emission) (size i : ℕ)
+    step_same : (f : Calls.Flow) (e helper : Emission) (size i : ℕ)
         → ((m : ℕ) → (step f e helper size start n i (walk product h guest start k)).count - n ≡ suc m → ZbbFree guest start m (i + size))
         → step f e helper size start n i (walk rust h guest start k) ≡ step f e helper size start n i (walk product h guest start k)
     unfolding step
-    step_same EmitFlow.Continue e helper size i free =
+    step_same (Some EmitFlow.Continue) e helper size i free =
         let w = walk product h guest start k (suc n) (i + size) in
         ap (in_front e.calls) (same (i + size) (free (w.count - suc n) (omega (arith, walk-count product h guest start k (suc n) (i + size)))))
-    step_same EmitFlow.Terminate e helper size i free = refl
-    step_same EmitFlow.None e helper size i free = refl
+    step_same (Some EmitFlow.Terminate) e helper size i free = refl
+    step_same None e helper size i free = refl
 
     -- a Zbb instruction would be counted
     counted : (c : ℕ) {f : Found} → suc n ≤ c → ((f ≡ Found.Nothing) → ⊥) → ((m : ℕ) → c - n ≡ suc m → f ≡ Found.Nothing) → ⊥
@@ -73,12 +75,12 @@ module _ (h : Host) (guest : List ℕ) (start : ℕ) where
 
   module _ (d : Dialect) where
     step_more : (k l n : ℕ) → ((j : ℕ) → (walk d h guest start k (suc n) j).count ≤ (walk d h guest start l (suc n) j).count)
-        → (f : EmitFlow) (e helper : Emission) (size i : ℕ)
+        → (f : Calls.Flow) (e helper : Emission) (size i : ℕ)
         → (step f e helper size start n i (walk d h guest start k)).count ≤ (step f e helper size start n i (walk d h guest start l)).count
     unfolding step
-    step_more k l n more EmitFlow.Continue e helper size i = more (i + size)
-    step_more k l n more EmitFlow.Terminate e helper size i = omega arith
-    step_more k l n more EmitFlow.None e helper size i = omega arith
+    step_more k l n more (Some EmitFlow.Continue) e helper size i = more (i + size)
+    step_more k l n more (Some EmitFlow.Terminate) e helper size i = omega arith
+    step_more k l n more None e helper size i = omega arith
 
     instr_more : (k l n : ℕ) → ((j : ℕ) → (walk d h guest start k (suc n) j).count ≤ (walk d h guest start l (suc n) j).count)
         → (o : Option ℕ) (i : ℕ) → (instr_walk d h o start n i (walk d h guest start k)).count ≤ (instr_walk d h o start n i (walk d h guest start l)).count

@@ -8,6 +8,8 @@ use lib.ListN.{length}
 use Rattle.rules.specs.Limits.{max_instrs, inline_words, end_words, instr_words, longest}
 use Rattle.word.specs.Word.{add}
 use Rattle.emit_native.specs.declared.EmitFlow.{EmitFlow}
+use Rattle.std.specs.Prelude.{Some, None}
+use Rattle.emit_native.specs.Calls as Calls
 use Rattle.emit_native.specs.declared.Host.{Host}
 use Rattle.emit_native.specs.Calls.{Call, product, words, Emission}
 use Rattle.emit_native.proofs.Size.{size, size-append, by}
@@ -39,18 +41,18 @@ module _ (h : Host) where
   -- ---- a walk
 
   module _ (guest : List ℕ) (start : ℕ) where
-    helped-few : (f : EmitFlow) (cs : List Call) (n pc : ℕ) → size o (helped f cs n pc).calls ≡ size o cs
+    helped-few : (f : Calls.Flow) (cs : List Call) (n pc : ℕ) → size o (helped f cs n pc).calls ≡ size o cs
     unfolding helped
-    helped-few EmitFlow.Continue cs n pc = refl
-    helped-few EmitFlow.Terminate cs n pc = refl
-    helped-few EmitFlow.None cs n pc = refl
+    helped-few (Some EmitFlow.Continue) cs n pc = refl
+    helped-few (Some EmitFlow.Terminate) cs n pc = refl
+    helped-few None cs n pc = refl
 
-    step_few : (f : EmitFlow) (e helper : Emission) (m n i k : ℕ) (rest : ℕ → ℕ → Walk) → ((j : ℕ) → size o (rest (suc n) j).calls ≤ inline_words * k)
+    step_few : (f : Calls.Flow) (e helper : Emission) (m n i k : ℕ) (rest : ℕ → ℕ → Walk) → ((j : ℕ) → size o (rest (suc n) j).calls ≤ inline_words * k)
         → size o e.calls ≤ inline_words → size o (e.calls ++ helper.calls) ≤ instr_words → size o (step f e helper m start n i rest).calls ≤ inline_words * suc k
     unfolding step
-    step_few EmitFlow.Continue e helper m n i k rest few a b = omega (arith, size-append o e.calls (rest (suc n) (i + m)).calls, few (i + m))
-    step_few EmitFlow.Terminate e helper m n i k rest few a b = omega arith
-    step_few EmitFlow.None e helper m n i k rest few a b = omega (arith, helped-few helper.flow (e.calls ++ helper.calls) n (add start i))
+    step_few (Some EmitFlow.Continue) e helper m n i k rest few a b = omega (arith, size-append o e.calls (rest (suc n) (i + m)).calls, few (i + m))
+    step_few (Some EmitFlow.Terminate) e helper m n i k rest few a b = omega arith
+    step_few None e helper m n i k rest few a b = omega (arith, helped-few helper.flow (e.calls ++ helper.calls) n (add start i))
 
     instr_few : (f : Option ℕ) (n i k : ℕ) (rest : ℕ → ℕ → Walk) → n < max_instrs → ((j : ℕ) → size o (rest (suc n) j).calls ≤ inline_words * k)
         → size o (instr_walk product h f start n i rest).calls ≤ inline_words * suc k

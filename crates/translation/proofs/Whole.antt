@@ -21,6 +21,8 @@ use Rattle.rv64_run.specs.declared.run.Ran.{Ran}
 use Rattle.rv64_run.specs.Run as Rv64
 use Rattle.emit_native.specs.declared.Host.{Host}
 use Rattle.emit_native.specs.declared.EmitFlow.{EmitFlow}
+use Rattle.std.specs.Prelude.{Some, None}
+use Rattle.emit_native.specs.Calls as Calls
 use Rattle.emit_native.specs.Calls.{Call, emit, mov_imm64, product, words_in, words, Emission}
 use Rattle.jit_arm64.specs.declared.block.Stop.{Stop}
 use Rattle.jit_arm64.specs.Block.{Walk, size_of, step, instr_walk, walk, end_calls, block_calls, whole_walk, block_of}
@@ -67,11 +69,11 @@ block_words o w free =
 
 -- ---- the count is at most the limit
 
-step_most : (f : EmitFlow) (e helper : Emission) (m start n i k : ℕ) (rest : ℕ → ℕ → Walk) → ((j : ℕ) → (rest (suc n) j).count ≤ suc n + k) → (step f e helper m start n i rest).count ≤ n + suc k
+step_most : (f : Calls.Flow) (e helper : Emission) (m start n i k : ℕ) (rest : ℕ → ℕ → Walk) → ((j : ℕ) → (rest (suc n) j).count ≤ suc n + k) → (step f e helper m start n i rest).count ≤ n + suc k
 unfolding step
-step_most EmitFlow.Continue e helper m start n i k rest h = omega (arith, h (i + m))
-step_most EmitFlow.Terminate e helper m start n i k rest h = omega arith
-step_most EmitFlow.None e helper m start n i k rest h = omega (arith, helped_most helper.flow (e.calls ++ helper.calls) n (add start i))
+step_most (Some EmitFlow.Continue) e helper m start n i k rest h = omega (arith, h (i + m))
+step_most (Some EmitFlow.Terminate) e helper m start n i k rest h = omega arith
+step_most None e helper m start n i k rest h = omega (arith, helped_most helper.flow (e.calls ++ helper.calls) n (add start i))
 
 instr_most : (h : Host) (f : Option ℕ) (start n i k : ℕ) (rest : ℕ → ℕ → Walk) → ((j : ℕ) → (rest (suc n) j).count ≤ suc n + k) → (instr_walk product h f start n i rest).count ≤ n + suc k
 unfolding instr_walk

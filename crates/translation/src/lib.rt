@@ -5,20 +5,28 @@
 
 ghost use Rattle.std.specs.Prelude.{◌≡◌, length, take};
 ghost use Rattle.translator.specs.Translate as T;
+ghost use Rattle.translator.specs.Numbers.{numbers};
 ghost use Rattle.translation.specs.Demand3.{HelperFree, Demand3};
 ghost use Rattle.translation.specs.HelperBlock.{HelperEnded, HelperBlock};
 ghost use Rattle.translation.specs.RustBlock.{ZbbFree, RustBlock};
 ghost use Rattle.translation.specs.Size.{Size};
 
 use emit_native::Host;
-use translator::Answer;
+use rules::refusals::Refusal;
+use translator::Translated;
 
-pub fn translate(guest: &[u8], pc: u64, limit: u32, host: Host, output: &mut [u8]) -> Answer
-    ensures answer { T.result result output.new ≡ T.translate host guest.now pc limit output.old }
-    ensures demand3 { HelperFree result.end → Demand3 guest.now pc limit host.ignore_ebreak host.slot_offset (take result.length output.new) result.count }
-    ensures helper_block { HelperEnded result.end → HelperBlock host guest.now pc limit (take result.length output.new) result.count }
-    ensures rust_block { result.refusal ≡ 0 → ZbbFree guest.now pc result.count 0 → RustBlock host guest.now pc limit (take result.length output.new) result.count }
-    ensures size { Size host limit (length output.old) result.refusal result.length }
+pub fn translate(
+    guest: &[u8],
+    pc: u64,
+    limit: u32,
+    host: Host,
+    output: &mut [u8],
+) -> Result<Translated, Refusal>
+    ensures answer { T.result (numbers result) output.new ≡ T.translate host guest.now pc limit output.old }
+    ensures demand3 { HelperFree (numbers result).end → Demand3 guest.now pc limit host.ignore_ebreak host.slot_offset (take (numbers result).length output.new) (numbers result).count }
+    ensures helper_block { HelperEnded (numbers result).end → HelperBlock host guest.now pc limit (take (numbers result).length output.new) (numbers result).count }
+    ensures rust_block { (numbers result).refusal ≡ 0 → ZbbFree guest.now pc (numbers result).count 0 → RustBlock host guest.now pc limit (take (numbers result).length output.new) (numbers result).count }
+    ensures size { Size host limit (length output.old) (numbers result).refusal (numbers result).length }
 {
     translator::translate(guest, pc, limit, host, output)
 }

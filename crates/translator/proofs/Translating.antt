@@ -23,9 +23,8 @@ use Rattle.jit_arm64.specs.Block.{fetch, is_missing, block_of, compile_native_bl
 use Rattle.jit_arm64.specs.Fence.{fence, limit_at}
 use Rattle.jit_arm64.specs.Parts.{BlockOf, fence_walk, is_fenced, missed}
 use Rattle.translator.specs.declared.EndKind.{EndKind}
-use Rattle.translator.specs.declared.Answer.{Answer}
 use Rattle.translator.specs.Parts.{answer_of}
-use Rattle.translator.specs.Translate.{result, refused, end_kind, end_number, bad_slot_offset, no_block, of_block, translate}
+use Rattle.translator.specs.Translate.{Answer, result, refused, end_kind, end_number, bad_slot_offset, no_block, of_block, translate}
 use Rattle.jit_arm64.proofs.Refusals.{refuses}
 use Rattle.jit_arm64.proofs.Fences.{no_block_with_fence, none_why, clamped-walk, clamped-fence}
 

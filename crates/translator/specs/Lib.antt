@@ -1,2 +1,3 @@
 pub mod Translate
+pub mod Numbers
 pub mod Parts

@@ -3,8 +3,7 @@ use Rattle.std.specs.Prelude.{ℕ, ◌≤◌, ◌≡◌, true, false, cond, [], 
 use Rattle.std.proofs.Math.Option.{Option}
 use Rattle.rules.specs.Refusals as Refusals
 use Rattle.jit_arm64.specs.declared.block.Walked.{Walked}
-use Rattle.translator.specs.declared.Answer.{Answer}
-use Rattle.translator.specs.Translate.{refused, end_kind, end_number}
+use Rattle.translator.specs.Translate.{Answer, refused, end_kind, end_number}
 
 -- the answer for a block of so many bytes, which FENCE.I f ended, with so much room
 abbrev pub answer_of : Option ℕ → Walked → ℕ → ℕ → Answer

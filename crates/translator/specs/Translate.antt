@@ -5,12 +5,18 @@ use Rattle.rules.specs.Limits.{max_instrs, max_slot_offset}
 use Rattle.rules.specs.Refusals as Refusals
 use Rattle.emit_native.specs.declared.Host.{Host}
 use Rattle.emit_native.specs.Calls.{product}
-use Rattle.translator.specs.declared.Answer.{Answer}
 use Rattle.jit_arm64.specs.declared.block.Stop.{Stop}
 use Rattle.jit_arm64.specs.declared.block.Stop.TheVariants.{Limit, Ended, Helper, Uncovered, NotFetched}
 use Rattle.jit_arm64.specs.Block.{fetch, is_missing, Block, compile_native_block}
 use Rattle.jit_arm64.specs.Fence.{fence, limit_at}
 use Rattle.translator.specs.declared.EndKind.{EndKind}
+
+-- the refusal, 0 where the block was written; its length in bytes, its count of instructions, and its end kind's number
+pub record Answer : Type 0 where
+  pub refusal : ℕ
+  pub length : ℕ
+  pub count : ℕ
+  pub end : ℕ
 
 -- the answer, and the output bytes then
 pub record Result : Type 0 where

@@ -1,46 +1,45 @@
 // The operation Translate: `compile_native_block`, with document 01's refusals around it.
 #![tactic(auto)]
 
-ghost use Rattle.std.specs.Prelude.{◌≡◌, [], false, ℕ, ◌*◌, ◌≤◌, min, length};
+ghost use Rattle.std.specs.Prelude.{◌≡◌, false, ℕ, ◌*◌, ◌≤◌, min};
 ghost use Rattle.std.proofs.Math.Option.{Option};
-ghost use Rattle.rules.specs.Limits.{max_instrs, short_words, max_words};
+ghost use Rattle.rules.specs.Limits.{max_instrs, max_words};
 ghost use Rattle.jit_arm64.specs.Parts.{is_fenced, Partly};
 ghost use Rattle.translator.specs.Parts.{answer_of, RoomOf};
+ghost use Rattle.translator.specs.Numbers.{numbers};
 ghost use Rattle.translator.specs.Translate as T;
 
 use emit_native::Host;
 use jit_arm64::block;
 use jit_arm64::block::{Stop, Walked};
-use rules::{SHORT_WORDS, refusals};
+use rules::SHORT_WORDS;
+use rules::refusals::Refusal;
 
 // How a block ends (document 02, No. 3).
-#[derive(Drop)]
+#[derive(Clone, Copy, PartialEq, Eq, Debug)]
 pub enum EndKind {
-    Plain,
+    Plain = 1,
     // a helper ended it
-    Helper,
+    Helper = 2,
     // FENCE.I ended it
-    Drop,
+    Drop = 3,
 }
 
-// The refusal, 0 where the block was written; its length in bytes, its count of instructions, and the number of its end kind.
-#[derive(Drop)]
-pub struct Answer {
-    pub refusal: u32,
+impl From<EndKind> for u32 {
+    ghost from_gives = { λ kind n. n ≡ T.end_number kind };
+
+    #[tactic(auto, unfolding(crate::specs::Translate::end_number))]
+    fn from(kind: EndKind) -> u32 {
+        kind as u32
+    }
+}
+
+// A block that was written: its length in bytes, its count of instructions, and how it ends.
+#[derive(Clone, Copy)]
+pub struct Translated {
     pub length: u32,
     pub count: u32,
-    pub end: u32,
-}
-
-fn refuse(n: u32) -> Answer
-    ensures { result ≡ (T.refused n []).answer }
-{
-    Answer {
-        refusal: n,
-        length: 0,
-        count: 0,
-        end: 0,
-    }
+    pub end: EndKind,
 }
 
 fn end_kind(fence: bool, stop: Stop) -> EndKind
@@ -55,44 +54,25 @@ fn end_kind(fence: bool, stop: Stop) -> EndKind
     EndKind::Plain
 }
 
-fn end_number(k: EndKind) -> u32
-    ensures { result ≡ T.end_number k }
-{
-    match k {
-        EndKind::Plain => 1,
-        EndKind::Helper => 2,
-        EndKind::Drop => 3,
-    }
-}
-
 fn bad_slot_offset(n: u64) -> bool
     ensures { result ≡ T.bad_slot_offset n }
 {
-    if n % 8 != 0 {
-        return true;
-    }
-    if rules::MAX_SLOT_OFFSET < n {
-        return true;
-    }
-    false
+    n % 8 != 0 || rules::MAX_SLOT_OFFSET < n
 }
 
 // The answer for a block of `length` bytes, for which there were `room` bytes of output.
-fn answer_for(done: Walked, length: usize, room: usize) -> Answer
+fn answer_for(done: Walked, length: usize, room: usize) -> Result<Translated, Refusal>
     requires { length ≤ 4 * max_words }
-    ensures { (f : Option ℕ) → done.fence ≡ is_fenced f → result ≡ answer_of f done length room }
+    ensures { (f : Option ℕ) → done.fence ≡ is_fenced f → numbers result ≡ answer_of f done length room }
 {
     if room < length {
-        return refuse(refusals::OUTPUT_SHORT);
+        return Err(Refusal::OutputShort);
     }
-    let stop = done.stop;
-    let kind = end_kind(done.fence, stop);
-    Answer {
-        refusal: 0,
+    Ok(Translated {
         length: length as u32,
         count: done.n,
-        end: end_number(kind),
-    }
+        end: end_kind(done.fence, done.stop),
+    })
 }
 
 // How much of the output the short emitter's words may take: nothing where they are no block.
@@ -117,15 +97,13 @@ fn go_on_long(
     most: u32,
     host: Host,
     output: &mut [u8],
-) -> Answer
-    requires { (length before.now ≡ short_words) × (T.bad_slot_offset host.slot_offset ≡ false) × (most ≤ max_instrs) × Partly host guest.now pc most before.now from }
-    ensures { (limit : ℕ) → most ≡ min limit max_instrs → T.result result output.new ≡ T.translate host guest.now pc limit output.old }
+) -> Result<Translated, Refusal>
+    requires { (T.bad_slot_offset host.slot_offset ≡ false) × (most ≤ max_instrs) × Partly host guest.now pc most before.now from }
+    ensures { (limit : ℕ) → most ≡ min limit max_instrs → T.result (numbers result) output.new ≡ T.translate host guest.now pc limit output.old }
 {
     let found = block::continue_native_block(before, from, guest, pc, most, host);
-    let done = found.done;
-    let em = found.em;
-    let length = em.finish(output);
-    answer_for(done, length, output.len())
+    let length = found.em.finish(output);
+    answer_for(found.done, length, output.len())
 }
 
 // The same. `translate` calls this in two places, so that it stays a function of its own: the long emitter is no part of
@@ -139,45 +117,58 @@ fn go_on(
     most: u32,
     host: Host,
     output: &mut [u8],
-) -> Answer
-    requires { (length before.now ≡ short_words) × (T.bad_slot_offset host.slot_offset ≡ false) × (most ≤ max_instrs) × Partly host guest.now pc most before.now from }
-    ensures { (limit : ℕ) → most ≡ min limit max_instrs → T.result result output.new ≡ T.translate host guest.now pc limit output.old }
+) -> Result<Translated, Refusal>
+    requires { (T.bad_slot_offset host.slot_offset ≡ false) × (most ≤ max_instrs) × Partly host guest.now pc most before.now from }
+    ensures { (limit : ℕ) → most ≡ min limit max_instrs → T.result (numbers result) output.new ≡ T.translate host guest.now pc limit output.old }
 {
     go_on_long(before, from, guest, pc, most, host, output)
 }
 
 // Operation Translate of document 01.
-pub fn translate(guest: &[u8], pc: u64, limit: u32, host: Host, output: &mut [u8]) -> Answer
-    ensures { T.result result output.new ≡ T.translate host guest.now pc limit output.old }
+pub fn translate(
+    guest: &[u8],
+    pc: u64,
+    limit: u32,
+    host: Host,
+    output: &mut [u8],
+) -> Result<Translated, Refusal>
+    ensures { T.result (numbers result) output.new ≡ T.translate host guest.now pc limit output.old }
 {
     if bad_slot_offset(host.slot_offset) {
-        return refuse(refusals::SLOT_OFFSET);
+        return Err(Refusal::SlotOffset);
     }
     if limit == 0 {
-        return refuse(refusals::LIMIT_ZERO);
+        return Err(Refusal::LimitZero);
     }
     if pc % 2 == 1 {
-        return refuse(refusals::ODD_PC);
+        return Err(Refusal::OddPc);
     }
-    let most = block::clamped(limit);
+    let most = limit.min(rules::MAX_INSTRS);
     let found = block::compile_native_block(guest, pc, most, host);
     let done = found.done;
-    let em = found.em;
     // no branch before this: it would bring a copy of the emitter
     let room = room_of(done, output.len());
-    let length = em.finish(&mut output[0..room]);
+    let length = found.em.finish(&mut output[0..room]);
     if done.full {
+        // Kept: a `min` would leave one call, which the compiler would take into this frame with the long emitter.
         if limit < rules::MAX_INSTRS {
-            return go_on(&em.words, done, guest, pc, limit, host, output);
+            return go_on(&found.em.words, done, guest, pc, limit, host, output);
         }
-        return go_on(&em.words, done, guest, pc, rules::MAX_INSTRS, host, output);
+        return go_on(
+            &found.em.words,
+            done,
+            guest,
+            pc,
+            rules::MAX_INSTRS,
+            host,
+            output,
+        );
     }
     if done.n == 0 {
-        let stop = done.stop;
-        if let Stop::NotFetched = stop {
-            return refuse(refusals::NOT_FETCHED);
+        if let Stop::NotFetched = done.stop {
+            return Err(Refusal::NotFetched);
         }
-        return refuse(refusals::NOT_COVERED);
+        return Err(Refusal::NotCovered);
     }
     answer_for(done, length, output.len())
 }

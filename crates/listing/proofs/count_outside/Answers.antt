@@ -1,6 +1,4 @@
-use native.Mathlib.Omega.{arith}
-use Prim.Native.Nat.{◌-◌, ◌*◌}
-use mathlib.Core.Path.{refl}
+use Rattle.std.proofs.Common.{arith, ◌*◌}
 use Rattle.le.specs.Le.{load}
 use Rattle.a64.specs.Forms.{decode}
 use Rattle.listing.proofs.Lines.{next-count, ended-count, outside_at_most}
@@ -11,8 +9,7 @@ loop-i-preserved c = let b = c.args.block.now in
     let l = c.loop-i in
     let q = rw c.load.ensures at c.is_outside-n.ensures in
     let w = decode (load 4 b (4 * l.i)) in
-    (refl, omega arith, omega (arith, q, outside_at_most w), omega (arith, q, next-count b l.i (omega arith)))
+    (omega (arith, q, outside_at_most w), omega (arith, q, next-count b l.i (omega arith)))
 
 pub returns : goal.returns
-returns c = let l = c.loop-i in
-    omega (arith, ended-count c.args.block.now l.i (omega arith))
+returns c = omega (arith, ended-count c.args.block.now c.loop-i.i (omega arith))

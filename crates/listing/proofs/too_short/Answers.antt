@@ -1,10 +1,10 @@
-use native.Mathlib.Omega.{arith}
-use mathlib.Core.Path.{sym}
+use Rattle.std.proofs.Common.{arith, sym, ◌/◌, length}
 use borrow.Author.Tests.{le-ltb}
-use lib.ListN.{length}
 use Rattle.listing.specs.Listing.{block_lines, listing}
 use Rattle.listing.proofs.Bound.{listing_bound}
 use Rattle.listing.proofs.too_short.Goals as goal
 
-pub returns-then-block-room : goal.returns-then-block-room
-returns-then-block-room c = sym (le-ltb c.args.room (length (listing (block_lines c.args.block.now))) (omega (arith, listing_bound c.args.block.now c.requires.inside)))
+pub returns-else-room-block : goal.returns-else-room-block
+returns-else-room-block c = let a = c.args in
+    rw (le-ltb (a.room / 45) (length a.block.now / 4) (omega arith))
+    (sym (le-ltb a.room (length (listing (block_lines a.block.now))) (omega (arith, listing_bound a.block.now c.requires.inside))))

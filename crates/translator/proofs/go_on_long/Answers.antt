@@ -15,4 +15,4 @@ returns c = let p = c.requires in
     let o = c.continue_native_block-found.ensures in
     let some = o.some in
     let kept = c.finish-length.auto.out in
-    λ limit e. answered p.1 (clamped-block e o.whole) (λ z. omega arith) c.finish-length.ensures (rw kept at c.answer_for.ensures)
+    λ limit e. answered p.0 (clamped-block e o.whole) (λ z. omega arith) c.finish-length.ensures (rw kept at c.answer_for.ensures)

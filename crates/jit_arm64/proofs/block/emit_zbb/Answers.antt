@@ -1,19 +1,27 @@
-use Rattle.std.proofs.Common.{sym, ◌∙◌}
+use Rattle.std.proofs.Common.{◌≡◌, sym, refl, ap, ◌∙◌}
 use Rattle.isa.specs.Zbb.{find}
-use Rattle.jit_arm64.proofs.Emitting.{zbb_flow, zbb_refuses, inline-rust, inline_zbb, compiled}
+use Rattle.emit_native.specs.Parts.{Answer, held, answer}
+use Rattle.zbb.specs.Emission.{emission}
+use Rattle.jit_arm64.proofs.Emitting.{zbb_flow, zbb_refuses, flow_is, zbb_taken}
 use Rattle.jit_arm64.proofs.block.emit_zbb.Goals as goal
+
+pub returns-in-Some : goal.returns-in-Some
+unfolding held
+returns-in-Some c =
+    let z = c.emit_native_zbb-found.ensures.emits in
+    record {
+      other = λ f. zbb_taken _ (sym (flow_is _ _ z ∙ zbb_refuses (find c.args.instr) c.args.instr f) ∙ c.in-Some.is);
+      zbb = λ f. z;
+    }
 
 -- no Zbb instruction: the array is as it was
 pub returns-in-None : goal.returns-in-None
-returns-in-None c = let a = c.args in
+unfolding held answer emission
+returns-in-None c =
     let z = c.emit_native_zbb-found.ensures in
-    let n = c.in-None.is in
-    let f = zbb_flow (find a.instr) a.instr (sym z.emits.flow ∙ n) in
-    rw (inline-rust a.host a.pc a.instr c.requires.1 f, z.words_unchanged n) c.requires.3
-
-pub returns : goal.returns
-returns c = let a = c.args in
-    let z = c.emit_native_zbb-found.ensures.emits in
-    compiled a.host.slot_offset a.host a.pc a.instr
-    (inline_zbb a.host a.pc a.instr c.requires.1 (λ n. c.in_default.not-None (z.flow ∙ zbb_refuses (find a.instr) a.instr n)))
-    (c.new.ensures _) z
+    record {
+      other = λ f.
+          let e : c.emit_native_zbb-found.result.em.slot_offset ≡ c.args.em.slot_offset = ap (λ (x : Answer). x.held.slot_offset) (rw f at z.emits) in
+          c.none.ensures.answers ∙ rw (z.words_unchanged c.in-None.is, e) refl;
+      zbb = λ f. absurd (f (zbb_flow (find c.args.instr) c.args.instr (sym (flow_is c.emit_native_zbb-found.result _ z.emits) ∙ c.in-None.is)));
+    }

@@ -8,31 +8,31 @@ use Rattle.jit_arm64.proofs.fetch.fetch.Goals as goal
 
 pub returns-then-pc-eq1 : goal.returns-then-pc-eq1
 unfolding fetch
-returns-then-pc-eq1 c = let a = c.args in rw (ne_eqb (a.pc % 2) 0 (omega arith)) (none_found c.missing.ensures)
+returns-then-pc-eq1 c = let a = c.args in rw (ne_eqb (a.pc % 2) 0 (omega arith)) none_found
 
 pub fetch_upper-requires : goal.fetch_upper-requires
 fetch_upper-requires c = let a = c.args in
-    let h = found a.guest.now (index a.start a.pc) _ (sym c.read_u16-found.ensures ∙ c.in-Found.is) in
+    let h = found a.guest.now (index a.start a.pc) _ (sym c.read_u16.ensures ∙ c.in_ok-instr16.was) in
     (h.0, sym h.1, eq-eqb _ _ c.if-instr16-eq3.true)
 
 pub returns-then-instr16-eq3 : goal.returns-then-instr16-eq3
 unfolding fetch
 returns-then-instr16-eq3 c = let a = c.args in
     let i = index a.start a.pc in
-    let h = found a.guest.now i _ (sym c.read_u16-found.ensures ∙ c.in-Found.is) in
+    let h = found a.guest.now i _ (sym c.read_u16.ensures ∙ c.in_ok-instr16.was) in
     rw (eq-eqb (a.pc % 2) 0 (omega arith), le-leb (i + 2) (length a.guest.now) h.0, h.1, eq-eqb _ _ c.if-instr16-eq3.true) c.fetch_upper.ensures
 
-pub returns-in-Missing : goal.returns-in-Missing
+pub returns-in_err-instr16 : goal.returns-in_err-instr16
 unfolding fetch
-returns-in-Missing c = let a = c.args in
+returns-in_err-instr16 c = let a = c.args in
     let i = index a.start a.pc in
-    let h = missing a.guest.now i (sym c.read_u16-found.ensures ∙ c.in-Missing.is) in
-    rw (eq-eqb (a.pc % 2) 0 (omega arith), lt-leb (i + 2) (length a.guest.now) h) (none_found c.missing-in-Missing.ensures)
+    let h = missing a.guest.now i (sym c.read_u16.ensures ∙ c.in_err-instr16.was) in
+    rw (eq-eqb (a.pc % 2) 0 (omega arith), lt-leb (i + 2) (length a.guest.now) h, c.from_residual.ensures) none_found
 
-pub returns-else-instr16-eq3 : goal.returns-else-instr16-eq3
+pub returns : goal.returns
 unfolding fetch
-returns-else-instr16-eq3 c = let a = c.args in
+returns c = let a = c.args in
     let i = index a.start a.pc in
-    let h = found a.guest.now i _ (sym c.read_u16-found.ensures ∙ c.in-Found.is) in
+    let h = found a.guest.now i _ (sym c.read_u16.ensures ∙ c.in_ok-instr16.was) in
     rw (eq-eqb (a.pc % 2) 0 (omega arith), le-leb (i + 2) (length a.guest.now) h.0, h.1, ne_eqb _ _ c.if-instr16-eq3.false)
     (half-found _ c.if-instr16-eq3.false (search rules))

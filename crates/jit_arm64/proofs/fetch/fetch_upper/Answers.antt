@@ -7,19 +7,19 @@ use Rattle.jit_arm64.specs.Block.{fetch_upper}
 use Rattle.jit_arm64.proofs.Fetching.{none_found, word-found}
 use Rattle.jit_arm64.proofs.fetch.fetch_upper.Goals as goal
 
-pub returns-in-Missing : goal.returns-in-Missing
+pub returns-in_err-upper : goal.returns-in_err-upper
 unfolding fetch_upper
-returns-in-Missing c = let a = c.args in
+returns-in_err-upper c = let a = c.args in
     let i = index a.start a.pc in
     let next : index a.start (add a.pc 2) ≡ i + 2 = index-next a.start a.pc (omega arith) (omega arith) (omega arith) in
-    let h = missing a.guest.now (i + 2) (rw (c.wrapping_add_u64.ensures.value, next) at (sym c.read_u16-found.ensures ∙ c.in-Missing.is)) in
-    rw (lt-leb (i + 4) (length a.guest.now) (omega arith)) (none_found c.missing.ensures)
+    let h = missing a.guest.now (i + 2) (rw next at (sym c.read_u16.ensures ∙ c.in_err-upper.was)) in
+    rw (lt-leb (i + 4) (length a.guest.now) (omega arith), c.from_residual.ensures) none_found
 
-pub returns-in-Found : goal.returns-in-Found
+pub returns : goal.returns
 unfolding fetch_upper
-returns-in-Found c = let a = c.args in
+returns c = let a = c.args in
     let p = c.requires in
     let i = index a.start a.pc in
     let next : index a.start (add a.pc 2) ≡ i + 2 = index-next a.start a.pc (omega arith) (omega arith) (omega arith) in
-    let h = found a.guest.now (i + 2) _ (rw (c.wrapping_add_u64.ensures.value, next) at (sym c.read_u16-found.ensures ∙ c.in-Found.is)) in
+    let h = found a.guest.now (i + 2) _ (rw next at (sym c.read_u16.ensures ∙ c.in_ok-upper.was)) in
     rw (le-leb (i + 4) (length a.guest.now) (omega arith), h.1, ← p.1) (word-found _ _ (eqb-true _ _ p.2))
