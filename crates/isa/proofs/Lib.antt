@@ -1,4 +1,3 @@
 pub mod Decoding
 pub mod Rows
 pub mod ZbbRows
-pub mod Keys

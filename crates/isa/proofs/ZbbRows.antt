@@ -1,4 +1,5 @@
 -- What a word that is a Zbb instruction has in its fields, row by row. Assumes nothing.
+use Rattle.std.specs.Prelude.{Some, None}
 use mathlib.Core.Path.{◌≡◌, refl, sym, ap, ◌∙◌}
 use native.Mathlib.Nat.{mod-eq_of_lt, div-div-eq-div-mul}
 use mathlib.Core.Bool.{Bool, true, false, cond}
@@ -9,7 +10,7 @@ use lib.Dec.{eqb}
 use borrow.Author.Tests.{eqb-true}
 use Rattle.isa.specs.declared.zbb.Zbb.{Zbb}
 use Rattle.isa.specs.declared.zbb.Found.{Found}
-use Rattle.isa.specs.Zbb.{key, Rows, row, registers, word_shifts, unaries, shifts, shift_of, unary_of, word_shift_of, find}
+use Rattle.isa.specs.Zbb.{key, Rows, row, registers, word_shifts, unaries, shifts, shift_of, unary_of, word_shift_of, find, MaybeZbb}
 use Rattle.isa.specs.Formats.{inst}
 
 -- R, from each row's fields: opcode and funct3, then funct7; or inst[31:26]; or both
@@ -27,11 +28,11 @@ By12 ((k, z) ∷ t) w R =
     (w % 128 ≡ k % 128 → w / 2 ^ 12 % 8 ≡ k / 128 % 8 → w / 2 ^ 26 % 64 ≡ k / 1024 / 64 → w / 2 ^ 25 % 128 ≡ k / 1024 / 32 → R) × By12 t w R
 
 -- a row's key
-module _ (R : Type 0) (make : Zbb → Found) (other : Found) (n k : ℕ) (z : Zbb) (t : Rows) where
-  at_row : (n ≡ k → R) → ((row t n make other ≡ Found.Nothing → ⊥) → R) → (row ((k, z) ∷ t) n make other ≡ Found.Nothing → ⊥) → R
+module _ (R : Type 0) (make : Zbb → MaybeZbb) (other : MaybeZbb) (n k : ℕ) (z : Zbb) (t : Rows) where
+  at_row : (n ≡ k → R) → ((row t n make other ≡ None → ⊥) → R) → (row ((k, z) ∷ t) n make other ≡ None → ⊥) → R
   at_row here rest h = at (eqb n k) refl h
     where
-      at : (b : Bool) → eqb n k ≡ b → (cond b (make z) (row t n make other) ≡ Found.Nothing → ⊥) → R
+      at : (b : Bool) → eqb n k ≡ b → (cond b (make z) (row t n make other) ≡ None → ⊥) → R
       at true q g = here (eqb-true n k q)
       at false q g = rest g
 
@@ -42,24 +43,24 @@ top : (a k n : ℕ) → a < n → a ≡ k → a % n ≡ k
 top a k n h e = mod-eq_of_lt h ∙ e
 
 module _ (w : ℕ) (hw : w < 2 ^ 32) (R : Type 0) where
-  by7 : (t : Rows) (make : Zbb → Found) (other : Found) → By7 t w R → ((other ≡ Found.Nothing → ⊥) → R)
-      → (row t (key 25 w) make other ≡ Found.Nothing → ⊥) → R
+  by7 : (t : Rows) (make : Zbb → MaybeZbb) (other : MaybeZbb) → By7 t w R → ((other ≡ None → ⊥) → R)
+      → (row t (key 25 w) make other ≡ None → ⊥) → R
   by7 [] make other a o h = o h
   by7 ((k, z) ∷ t) make other a o h =
       at_row R make other (key 25 w) k z t (λ e.
       let d = digits (w / 2 ^ 25) (w / 2 ^ 12 % 8) (w % 128) k (omega arith) (omega arith) e in
       a.0 d.0 d.1 (top (w / 2 ^ 25) (k / 1024) 128 (omega arith) d.2)) (λ g. by7 t make other a.1 o g) h
 
-  by6 : (t : Rows) (make : Zbb → Found) (other : Found) → By6 t w R → ((other ≡ Found.Nothing → ⊥) → R)
-      → (row t (key 26 w) make other ≡ Found.Nothing → ⊥) → R
+  by6 : (t : Rows) (make : Zbb → MaybeZbb) (other : MaybeZbb) → By6 t w R → ((other ≡ None → ⊥) → R)
+      → (row t (key 26 w) make other ≡ None → ⊥) → R
   by6 [] make other a o h = o h
   by6 ((k, z) ∷ t) make other a o h =
       at_row R make other (key 26 w) k z t (λ e.
       let d = digits (w / 2 ^ 26) (w / 2 ^ 12 % 8) (w % 128) k (omega arith) (omega arith) e in
       a.0 d.0 d.1 (top (w / 2 ^ 26) (k / 1024) 64 (omega arith) d.2)) (λ g. by6 t make other a.1 o g) h
 
-  by12 : (t : Rows) (make : Zbb → Found) (other : Found) → By12 t w R → ((other ≡ Found.Nothing → ⊥) → R)
-      → (row t (key 20 w) make other ≡ Found.Nothing → ⊥) → R
+  by12 : (t : Rows) (make : Zbb → MaybeZbb) (other : MaybeZbb) → By12 t w R → ((other ≡ None → ⊥) → R)
+      → (row t (key 20 w) make other ≡ None → ⊥) → R
   by12 [] make other a o h = o h
   by12 ((k, z) ∷ t) make other a o h =
       at_row R make other (key 20 w) k z t (λ e.
@@ -70,13 +71,13 @@ module _ (w : ℕ) (hw : w < 2 ^ 32) (R : Type 0) where
       (λ g. by12 t make other a.1 o g) h
 
   -- R holds of a Zbb instruction where it holds of each row
-  pub each_row : By7 registers w R → By7 word_shifts w R → By12 unaries w R → By6 shifts w R → (find w ≡ Found.Nothing → ⊥) → R
+  pub each_row : By7 registers w R → By7 word_shifts w R → By12 unaries w R → By6 shifts w R → (find w ≡ None → ⊥) → R
   unfolding find word_shift_of unary_of shift_of
   each_row a b c d h =
-      by7 registers Found.Register (word_shift_of w) a
-      (by7 word_shifts (λ (z : Zbb). Found.Number z (inst 24 20 w)) (unary_of w) b
-      (by12 unaries Found.Unary (shift_of w) c
-      (by6 shifts (λ (z : Zbb). Found.Number z (inst 25 20 w)) Found.Nothing d (λ g. absurd (g refl))))) h
+      by7 registers (λ (z : Zbb). Some (Found.Register z)) (word_shift_of w) a
+      (by7 word_shifts (λ (z : Zbb). Some (Found.Number z (inst 24 20 w))) (unary_of w) b
+      (by12 unaries (λ (z : Zbb). Some (Found.Unary z)) (shift_of w) c
+      (by6 shifts (λ (z : Zbb). Some (Found.Number z (inst 25 20 w))) None d (λ g. absurd (g refl))))) h
 
 -- ---- a word with another opcode is none, whatever is above its 32 bits
 
@@ -84,8 +85,8 @@ abbrev ByOpcode : Rows → ℕ → Type 0 → Type 0
 ByOpcode [] w R = Unit {0}
 ByOpcode ((k, z) ∷ t) w R = (w % 128 ≡ k % 128 → R) × ByOpcode t w R
 
-by_opcode : (w : ℕ) (R : Type 0) (s : ℕ) (t : Rows) (make : Zbb → Found) (other : Found) → ByOpcode t w R → ((other ≡ Found.Nothing → ⊥) → R)
-    → (row t (key s w) make other ≡ Found.Nothing → ⊥) → R
+by_opcode : (w : ℕ) (R : Type 0) (s : ℕ) (t : Rows) (make : Zbb → MaybeZbb) (other : MaybeZbb) → ByOpcode t w R → ((other ≡ None → ⊥) → R)
+    → (row t (key s w) make other ≡ None → ⊥) → R
 by_opcode w R s [] make other a o h = o h
 by_opcode w R s ((k, z) ∷ t) make other a o h =
     at_row R make other (key s w) k z t (λ e.
@@ -93,23 +94,23 @@ by_opcode w R s ((k, z) ∷ t) make other a o h =
 
 -- Zbb's opcodes are OP, OP-IMM, OP-32 and OP-IMM-32
 pub opcode_of : (w : ℕ) (R : Type 0) → (w % 128 ≡ 0x33 → R) → (w % 128 ≡ 0x13 → R) → (w % 128 ≡ 0x3B → R) → (w % 128 ≡ 0x1B → R)
-    → (find w ≡ Found.Nothing → ⊥) → R
+    → (find w ≡ None → ⊥) → R
 unfolding find word_shift_of unary_of shift_of registers word_shifts unaries shifts
 opcode_of w R op imm op_32 imm_32 h =
-    by_opcode w R 25 registers Found.Register (word_shift_of w)
+    by_opcode w R 25 registers (λ (z : Zbb). Some (Found.Register z)) (word_shift_of w)
     (op, (op, (op, (op, (op, (op, (op, (op, (op, (op_32, (op_32, tt)))))))))))
-    (by_opcode w R 25 word_shifts (λ (z : Zbb). Found.Number z (inst 24 20 w)) (unary_of w) (imm_32, tt)
-    (by_opcode w R 20 unaries Found.Unary (shift_of w)
+    (by_opcode w R 25 word_shifts (λ (z : Zbb). Some (Found.Number z (inst 24 20 w))) (unary_of w) (imm_32, tt)
+    (by_opcode w R 20 unaries (λ (z : Zbb). Some (Found.Unary z)) (shift_of w)
     (imm, (imm, (imm, (imm_32, (imm_32, (imm_32, (imm, (imm, (op_32, (imm, (imm, tt)))))))))))
-    (by_opcode w R 26 shifts (λ (z : Zbb). Found.Number z (inst 25 20 w)) Found.Nothing (imm, tt) (λ g. absurd (g refl))))) h
+    (by_opcode w R 26 shifts (λ (z : Zbb). Some (Found.Number z (inst 25 20 w))) None (imm, tt) (λ g. absurd (g refl))))) h
 
-pub is_nothing : (f : Found) → ((f ≡ Found.Nothing → ⊥) → ⊥) → f ≡ Found.Nothing
-is_nothing Found.Nothing h = refl
-is_nothing (Found.Register z) h = absurd (h (λ e. let y : ◌≡◌ {A = ℕ} 0 1 = cc in omega arith))
-is_nothing (Found.Number z n) h = absurd (h (λ e. let y : ◌≡◌ {A = ℕ} 0 1 = cc in omega arith))
-is_nothing (Found.Unary z) h = absurd (h (λ e. let y : ◌≡◌ {A = ℕ} 0 1 = cc in omega arith))
+pub is_nothing : (f : MaybeZbb) → ((f ≡ None → ⊥) → ⊥) → f ≡ None
+is_nothing None h = refl
+is_nothing (Some (Found.Register z)) h = absurd (h (λ e. let y : ◌≡◌ {A = ℕ} 0 1 = cc in omega arith))
+is_nothing (Some (Found.Number z n)) h = absurd (h (λ e. let y : ◌≡◌ {A = ℕ} 0 1 = cc in omega arith))
+is_nothing (Some (Found.Unary z)) h = absurd (h (λ e. let y : ◌≡◌ {A = ℕ} 0 1 = cc in omega arith))
 
-pub no_zbb : (w : ℕ) → (w % 128 ≡ 0x33 → ⊥) → (w % 128 ≡ 0x13 → ⊥) → (w % 128 ≡ 0x3B → ⊥) → (w % 128 ≡ 0x1B → ⊥) → find w ≡ Found.Nothing
+pub no_zbb : (w : ℕ) → (w % 128 ≡ 0x33 → ⊥) → (w % 128 ≡ 0x13 → ⊥) → (w % 128 ≡ 0x3B → ⊥) → (w % 128 ≡ 0x1B → ⊥) → find w ≡ None
 no_zbb w op imm op_32 imm_32 = is_nothing (find w) (opcode_of w ⊥ op imm op_32 imm_32)
 
 -- ---- what holds of every Zbb instruction
@@ -118,7 +119,7 @@ abbrev pub Each : Rows → (Zbb → Type 0) → Type 0
 Each [] Q = Unit {0}
 Each ((k, z) ∷ t) Q = Q z × Each t Q
 
-row_has : (P : Found → Type 0) (t : Rows) (n : ℕ) (make : Zbb → Found) (other : Found) → Each t (λ (z : Zbb). P (make z)) → P other → P (row t n make other)
+row_has : (P : MaybeZbb → Type 0) (t : Rows) (n : ℕ) (make : Zbb → MaybeZbb) (other : MaybeZbb) → Each t (λ (z : Zbb). P (make z)) → P other → P (row t n make other)
 row_has P [] n make other a o = o
 row_has P ((k, z) ∷ t) n make other a o = at (eqb n k) (row_has P t n make other a.1 o)
   where
@@ -130,11 +131,11 @@ all_rows : (Q : Zbb → Type 0) (t : Rows) → ((z : Zbb) → Q z) → Each t Q
 all_rows Q [] f = tt
 all_rows Q ((k, z) ∷ t) f = (f z, all_rows Q t f)
 
-pub found_has : (P : Found → Type 0) (w : ℕ) → ((z : Zbb) → P (Found.Register z)) → ((z : Zbb) (n : ℕ) → n < 64 → P (Found.Number z n))
-    → Each unaries (λ (z : Zbb). P (Found.Unary z)) → P Found.Nothing → P (find w)
+pub found_has : (P : MaybeZbb → Type 0) (w : ℕ) → ((z : Zbb) → P (Some (Found.Register z))) → ((z : Zbb) (n : ℕ) → n < 64 → P (Some (Found.Number z n)))
+    → Each unaries (λ (z : Zbb). P (Some (Found.Unary z))) → P None → P (find w)
 unfolding find word_shift_of unary_of shift_of
 found_has P w register number unary nothing =
-    row_has P registers (key 25 w) Found.Register _ (all_rows _ registers register)
+    row_has P registers (key 25 w) (λ (z : Zbb). Some (Found.Register z)) _ (all_rows _ registers register)
     (row_has P word_shifts (key 25 w) _ _ (all_rows _ word_shifts (λ z. number z (inst 24 20 w) (omega arith)))
-    (row_has P unaries (key 20 w) Found.Unary _ unary
-    (row_has P shifts (key 26 w) _ Found.Nothing (all_rows _ shifts (λ z. number z (inst 25 20 w) (omega arith))) nothing)))
+    (row_has P unaries (key 20 w) (λ (z : Zbb). Some (Found.Unary z)) _ unary
+    (row_has P shifts (key 26 w) _ None (all_rows _ shifts (λ z. number z (inst 25 20 w) (omega arith))) nothing)))

@@ -1,6 +1,6 @@
 -- The encodings of Zbb, RV64, from the RISC-V Unprivileged ISA, 'B' Extension for Bit Manipulation, 'Zbb: Basic
 -- bit-manipulation'. Definitions only.
-use Rattle.std.specs.Prelude.{cond, List, [], ◌∷◌, ℕ, ◌+◌, ◌*◌, ◌/◌, ◌^◌, eqb}
+use Rattle.std.specs.Prelude.{cond, List, [], ◌∷◌, ℕ, ◌+◌, ◌*◌, ◌/◌, ◌^◌, eqb, Option, Some, None}
 use Rattle.isa.specs.Formats.{inst, opcode, funct3}
 use Rattle.isa.specs.declared.zbb.Zbb.{Zbb}
 use Rattle.isa.specs.declared.zbb.Found.{Found}
@@ -9,11 +9,15 @@ use Rattle.isa.specs.declared.zbb.Found.{Found}
 abbrev pub key : ℕ → ℕ → ℕ
 key k w = w / 2 ^ k * 2 ^ 10 + funct3 w * 2 ^ 7 + opcode w
 
+-- a Zbb instruction, or none
+abbrev pub MaybeZbb : Type 0
+MaybeZbb = Option Found
+
 abbrev pub Rows : Type 0
 Rows = List (ℕ × Zbb)
 
 -- make of the row at n, or other where there is none
-abbrev pub row : Rows → ℕ → (Zbb → Found) → Found → Found
+abbrev pub row : Rows → ℕ → (Zbb → MaybeZbb) → MaybeZbb → MaybeZbb
 row [] n make other = other
 row ((k, z) ∷ t) n make other = cond (eqb n k) (make z) (row t n make other)
 
@@ -61,15 +65,15 @@ shifts =
     (0b011000_101_0010011, Zbb.Ror)
     ∷ []
 
-unfoldable pub shift_of : ℕ → Found
-shift_of w = row shifts (key 26 w) (λ (z : Zbb). Found.Number z (inst 25 20 w)) Found.Nothing
+unfoldable pub shift_of : ℕ → MaybeZbb
+shift_of w = row shifts (key 26 w) (λ (z : Zbb). Some (Found.Number z (inst 25 20 w))) None
 
-unfoldable pub unary_of : ℕ → Found
-unary_of w = row unaries (key 20 w) Found.Unary (shift_of w)
+unfoldable pub unary_of : ℕ → MaybeZbb
+unary_of w = row unaries (key 20 w) (λ (z : Zbb). Some (Found.Unary z)) (shift_of w)
 
-unfoldable pub word_shift_of : ℕ → Found
-word_shift_of w = row word_shifts (key 25 w) (λ (z : Zbb). Found.Number z (inst 24 20 w)) (unary_of w)
+unfoldable pub word_shift_of : ℕ → MaybeZbb
+word_shift_of w = row word_shifts (key 25 w) (λ (z : Zbb). Some (Found.Number z (inst 24 20 w))) (unary_of w)
 
 -- the Zbb instruction of a word, or none
-unfoldable pub find : ℕ → Found
-find w = row registers (key 25 w) Found.Register (word_shift_of w)
+unfoldable pub find : ℕ → MaybeZbb
+find w = row registers (key 25 w) (λ (z : Zbb). Some (Found.Register z)) (word_shift_of w)

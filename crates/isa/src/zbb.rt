@@ -1,6 +1,6 @@
 // The encodings of Zbb.
-ghost use Rattle.std.specs.Prelude.{◌≡◌, ◌≤◌, ◌<◌};
-ghost use Rattle.isa.specs.Zbb as Z;
+ghost use Rattle.std.specs.Prelude.{◌≡◌, ◌+◌, ◌*◌, ◌/◌, ◌^◌, ◌≤◌};
+ghost use Rattle.isa.specs.Formats as F;
 
 // What is computed.
 #[derive(Drop)]
@@ -38,15 +38,19 @@ pub enum Found {
     Number(Zbb, u64),
     // none
     Unary(Zbb),
-    // no Zbb instruction
-    Nothing,
 }
 
-// The bits from LOW up, funct3 and the opcode, side by side: LOW is 25 for funct7, 20 for funct12 and 26 for funct6.
-#[tactic(auto, using(crate::proofs::Keys::key_bounds))]
-pub fn key<const LOW: u32>(w: u32) -> u32
-    requires { (20 ≤ LOW) × (LOW < 32) }
-    ensures { result ≡ Z.key LOW w }
+// Where funct7, funct12 and funct6 begin.
+pub const FUNCT7: u32 = 0x200_0000;
+
+pub const FUNCT12: u32 = 0x10_0000;
+
+pub const FUNCT6: u32 = 0x400_0000;
+
+// The field that begins at this unit, funct3 and the opcode, side by side.
+pub fn key<const UNIT: u32>(w: u32) -> u32
+    requires { 2 ^ 20 ≤ UNIT }
+    ensures { result ≡ w / UNIT * 2 ^ 10 + F.funct3 w * 2 ^ 7 + F.opcode w }
 {
-    (w >> LOW) * 1024 + w / 4096 % 8 * 128 + w % 128
+    w / UNIT * 1024 + w / 4096 % 8 * 128 + w % 128
 }

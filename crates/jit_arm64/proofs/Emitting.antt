@@ -7,7 +7,7 @@ use Rattle.a64_emitter.specs.Parts.{Added}
 use Rattle.a64_emitter.proofs.Emission.{constant_length, movk-none, emitted-fits, in_turn-fits}
 use Rattle.isa.specs.declared.decode.Decoded32.{Decoded32}
 use Rattle.isa.specs.declared.zbb.Found.{Found}
-use Rattle.isa.specs.Zbb.{find}
+use Rattle.isa.specs.Zbb.{find, MaybeZbb}
 use Rattle.emit_native.specs.declared.EmitFlow.{EmitFlow}
 use Rattle.emit_native.specs.declared.EmitFlow.TheVariants.{Terminate}
 use Rattle.std.specs.Prelude.{Some, None}
@@ -73,23 +73,23 @@ flow_is r a e = ap (λ (x : Answer). x.flow) e
 
 -- ---- Zbb's instructions, and the others
 
-pub by_zbb : (P : Emission → Type 0) (f : Found) (instr : ℕ) (e : Emission) → ((f ≡ Found.Nothing → ⊥) → P (emission f instr)) → (f ≡ Found.Nothing → P e)
+pub by_zbb : (P : Emission → Type 0) (f : MaybeZbb) (instr : ℕ) (e : Emission) → ((f ≡ None → ⊥) → P (emission f instr)) → (f ≡ None → P e)
     → P (zbb_first f instr e)
 unfolding zbb_first
-by_zbb P Found.Nothing instr e is other = other refl
-by_zbb P (Found.Register z) instr e is other = is (λ q. let y : ◌≡◌ {A = ℕ} 0 1 = cc in omega arith)
-by_zbb P (Found.Number z n) instr e is other = is (λ q. let y : ◌≡◌ {A = ℕ} 0 1 = cc in omega arith)
-by_zbb P (Found.Unary z) instr e is other = is (λ q. let y : ◌≡◌ {A = ℕ} 0 1 = cc in omega arith)
+by_zbb P None instr e is other = other refl
+by_zbb P (Some (Found.Register z)) instr e is other = is (λ q. let y : ◌≡◌ {A = ℕ} 0 1 = cc in omega arith)
+by_zbb P (Some (Found.Number z n)) instr e is other = is (λ q. let y : ◌≡◌ {A = ℕ} 0 1 = cc in omega arith)
+by_zbb P (Some (Found.Unary z)) instr e is other = is (λ q. let y : ◌≡◌ {A = ℕ} 0 1 = cc in omega arith)
 
 -- what Zbb's emitter answers says which
-pub zbb_flow : (f : Found) (instr : ℕ) → (emission f instr).flow ≡ None → f ≡ Found.Nothing
+pub zbb_flow : (f : MaybeZbb) (instr : ℕ) → (emission f instr).flow ≡ None → f ≡ None
 unfolding emission store_rd
-zbb_flow Found.Nothing instr e = refl
-zbb_flow (Found.Register z) instr e = let y : ◌≡◌ {A = ℕ} 0 1 = cc in absurd (omega arith)
-zbb_flow (Found.Number z n) instr e = let y : ◌≡◌ {A = ℕ} 0 1 = cc in absurd (omega arith)
-zbb_flow (Found.Unary z) instr e = let y : ◌≡◌ {A = ℕ} 0 1 = cc in absurd (omega arith)
+zbb_flow None instr e = refl
+zbb_flow (Some (Found.Register z)) instr e = let y : ◌≡◌ {A = ℕ} 0 1 = cc in absurd (omega arith)
+zbb_flow (Some (Found.Number z n)) instr e = let y : ◌≡◌ {A = ℕ} 0 1 = cc in absurd (omega arith)
+zbb_flow (Some (Found.Unary z)) instr e = let y : ◌≡◌ {A = ℕ} 0 1 = cc in absurd (omega arith)
 
-pub zbb_refuses : (f : Found) (instr : ℕ) → f ≡ Found.Nothing → (emission f instr).flow ≡ None
+pub zbb_refuses : (f : MaybeZbb) (instr : ℕ) → f ≡ None → (emission f instr).flow ≡ None
 unfolding emission
 zbb_refuses f instr e = rw e
 
@@ -107,11 +107,11 @@ module _ (h : Host) (pc instr : ℕ) where
   unfolding emit_native
   native32 d e n = rw (eq-eqb (instr % 4) 3 n, e) refl
 
-  pub inline-rust : instr % 4 ≡ 3 → find instr ≡ Found.Nothing → emit_inline product h pc instr ≡ emit_native h pc instr
+  pub inline-rust : instr % 4 ≡ 3 → find instr ≡ None → emit_inline product h pc instr ≡ emit_native h pc instr
   unfolding emit_inline zbb_of zbb_first
   inline-rust n f = rw (eq-eqb (instr % 4) 3 n, f) refl
 
-  pub inline_zbb : instr % 4 ≡ 3 → (find instr ≡ Found.Nothing → ⊥) → emit_inline product h pc instr ≡ emission (find instr) instr
+  pub inline_zbb : instr % 4 ≡ 3 → (find instr ≡ None → ⊥) → emit_inline product h pc instr ≡ emission (find instr) instr
   unfolding emit_inline zbb_of
   inline_zbb n f =
       rw (eq-eqb (instr % 4) 3 n) (by_zbb (λ (e : Emission). e ≡ emission (find instr) instr) (find instr) instr _ (λ g. refl) (λ g. absurd (f g)))
@@ -333,8 +333,8 @@ module _ (slot_offset : ℕ) where
   -- Zbb's emitter after the Rust's, which refused the instruction
   pub zbb_compiled : (h : Host) (pc instr : ℕ) {d : Decoded32} (out r : Emitted) → d ≡ decode32 instr → instr % 4 ≡ 3
       → answer out ≡ emitted (nothing slot_offset) (emit_native_instr pc instr d) → out.flow ≡ None
-      → (find instr ≡ Found.Nothing → answer r ≡ unfit (held out.em))
-      → ((find instr ≡ Found.Nothing → ⊥) → answer r ≡ emitted (nothing (held out.em).slot_offset) (emission (find instr) instr))
+      → (find instr ≡ None → answer r ≡ unfit (held out.em))
+      → ((find instr ≡ None → ⊥) → answer r ≡ emitted (nothing (held out.em).slot_offset) (emission (find instr) instr))
       → Compiled slot_offset (emit_inline product h pc instr).calls (emit_inline product h pc instr).flow r
   unfolding emit_inline zbb_of
   zbb_compiled h pc instr {d} out r e wide is refused other zbb =
@@ -346,7 +346,7 @@ module _ (slot_offset : ℕ) where
       (λ f. compiled_as (emission (find instr) instr) (zbb_fits instr f) r refl (rw same at (zbb f)))
       (λ f. is_compiled slot_offset (emit_native h pc instr).calls (emit_native h pc instr).flow r (rw no_flow (rw rust.holds at (other f)))))
     where
-      zbb_fits : (w : ℕ) → (find w ≡ Found.Nothing → ⊥) → size slot_offset (emission (find w) w).calls ≤ inline_words
+      zbb_fits : (w : ℕ) → (find w ≡ None → ⊥) → size slot_offset (emission (find w) w).calls ≤ inline_words
       zbb_fits w f = (zbb_size slot_offset w).within
 
   -- the words of an instruction that a helper takes, and of one that is not covered

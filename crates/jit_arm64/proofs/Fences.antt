@@ -1,10 +1,10 @@
 -- FENCE.I in a walk: where it is the last instruction, and where there is none. Assumes nothing.
+use Rattle.std.specs.Prelude.{None}
 use Rattle.std.proofs.Common.{◌≡◌, ℕ, zero, suc, ◌+◌, ◌%◌, ◌^◌, ◌<◌, ◌≤◌, min, Bool, true, false, cond, ◌&&◌, eqb, List, [], sym, refl, ap, ◌∙◌, true≢false, arith, eq-eqb, ne_eqb, eqb-true}
 use mathlib.Core.Option.{Option, none, some}
 use Rattle.rules.specs.Limits.{max_instrs}
 use Rattle.word.specs.Word.{add}
 use Rattle.isa.specs.Formats.{funct3}
-use Rattle.isa.specs.declared.zbb.Found.{Found}
 use Rattle.isa.specs.Zbb.{find}
 use Rattle.isa.proofs.ZbbRows.{no_zbb}
 use Rattle.emit_native.specs.declared.Host.{Host}
@@ -28,7 +28,7 @@ pub fence_wide : (instr : ℕ) → is_fence_i instr ≡ true → is_32 instr ≡
 fence_wide instr t = eq-eqb (instr % 4) 3 (omega (arith, (fence-fields instr t).0))
 
 -- it is no Zbb instruction
-pub fence_no_zbb : (instr : ℕ) → is_fence_i instr ≡ true → find instr ≡ Found.Nothing
+pub fence_no_zbb : (instr : ℕ) → is_fence_i instr ≡ true → find instr ≡ None
 fence_no_zbb instr t =
     let f = fence-fields instr t in
     no_zbb instr (λ e. omega arith) (λ e. omega arith) (λ e. omega arith) (λ e. omega arith)

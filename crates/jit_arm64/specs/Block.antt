@@ -12,7 +12,7 @@ use Rattle.a64_emitter.specs.Emitter.{bytes}
 use Rattle.emit_native.specs.Calls.{Call, Flow, Dialect, rust, product, emit, mov_imm64, words_in, Emission}
 use Rattle.isa.specs.declared.zbb.Found.{Found}
 use Rattle.isa.specs.Decode.{decode32}
-use Rattle.isa.specs.Zbb.{find}
+use Rattle.isa.specs.Zbb.{find, MaybeZbb}
 use Rattle.instr16.specs.Instr16.{emit_native_instr16}
 use Rattle.instr32.specs.Instr32.{emit_native_instr}
 use Rattle.term_helper.specs.TermHelper.{emit_native_term_helper16, emit_native_term_helper32}
@@ -59,14 +59,14 @@ emit_term_helper h pc instr emitted =
     cond (is_32 instr) (emit_native_term_helper32 h pc instr (decode32 instr) emitted) (emit_native_term_helper16 h pc instr emitted)
 
 -- the Zbb instruction that it is, of 32 bits
-unfoldable pub zbb_of : ℕ → Found
-zbb_of instr = cond (is_32 instr) (find instr) Found.Nothing
+unfoldable pub zbb_of : ℕ → MaybeZbb
+zbb_of instr = cond (is_32 instr) (find instr) None
 
-unfoldable pub zbb_first : Found → ℕ → Emission → Emission
-zbb_first Found.Nothing instr e = e
-zbb_first (Found.Register z) instr e = emission (Found.Register z) instr
-zbb_first (Found.Number z n) instr e = emission (Found.Number z n) instr
-zbb_first (Found.Unary z) instr e = emission (Found.Unary z) instr
+unfoldable pub zbb_first : MaybeZbb → ℕ → Emission → Emission
+zbb_first None instr e = e
+zbb_first (Some (Found.Register z)) instr e = emission (Some (Found.Register z)) instr
+zbb_first (Some (Found.Number z n)) instr e = emission (Some (Found.Number z n)) instr
+zbb_first (Some (Found.Unary z)) instr e = emission (Some (Found.Unary z)) instr
 
 -- the product takes Zbb first, and the Rust's emitters after it (document 02, No. 7)
 unfoldable pub emit_inline : Dialect → Host → ℕ → ℕ → Emission

@@ -46,7 +46,7 @@ pub struct NativeBlock<const N: usize> {
 
 // Whether the opcode is one of Zbb's: OP, OP-IMM, OP-32, OP-IMM-32.
 fn may_be_zbb(instr: u32) -> bool
-    ensures { result ≡ false → find instr ≡ Found.Nothing }
+    ensures { result ≡ false → find instr ≡ None }
 {
     let opcode = instr % 128;
     matches!(
@@ -57,8 +57,8 @@ fn may_be_zbb(instr: u32) -> bool
 
 // Zbb's words in the place of those that the Rust's emitter left; these stay where it is no Zbb instruction.
 fn emit_zbb(mut em: InstrEmitter<'_>, instr: u32) -> Emitted<'_>
-    ensures other { find instr ≡ Found.Nothing → answer result ≡ unfit (held em.entry) }
-    ensures zbb { (find instr ≢ Found.Nothing) → answer result ≡ emitted (nothing (held em.entry).slot_offset) (emission (find instr) instr) }
+    ensures other { find instr ≡ None → answer result ≡ unfit (held em.entry) }
+    ensures zbb { (find instr ≢ None) → answer result ≡ emitted (nothing (held em.entry).slot_offset) (emission (find instr) instr) }
 {
     let len = em.len;
     em.len = 0;

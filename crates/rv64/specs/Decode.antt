@@ -1,10 +1,10 @@
 -- The 32-bit encodings, from the RISC-V Unprivileged ISA, 'RV32/64G Instruction Set Listings'; what is covered and what
 -- is a helper's, from document 01, rules 2 to 4. Definitions only.
-use Rattle.std.specs.Prelude.{ℕ, ◌+◌, ◌*◌, cond, List, [], ◌∷◌, ◌==◌, nat_lt}
+use Rattle.std.specs.Prelude.{ℕ, ◌+◌, ◌*◌, cond, List, [], ◌∷◌, ◌==◌, nat_lt, Some, None}
 use Rattle.isa.specs.declared.classes.Class.{Class}
 use Rattle.isa.specs.declared.zbb.Found.{Found}
 use Rattle.isa.specs.Classes.{class_of}
-use Rattle.isa.specs.Zbb.{find}
+use Rattle.isa.specs.Zbb.{find, MaybeZbb}
 use Rattle.isa.specs.Formats.{inst, opcode, rd, funct3, rs1, rs2, funct7, i_imm, b_imm, u_imm, j_imm}
 use Rattle.rv64.specs.declared.alu.Alu.{Alu}
 use Rattle.rv64.specs.declared.alu.Cond.{Cond}
@@ -187,11 +187,11 @@ unfoldable pub base32 : ℕ → Instr
 base32 w = by_class (class_of (opcode w)) w
 
 -- Zbb's (document 02, No. 7): with rs2, with a number, or with one operand
-unfoldable pub zbb_or : Found → ℕ → Instr → Instr
-zbb_or (Found.Register z) w i = Instr.Zbb z (rd w) (rs1 w) (rs2 w)
-zbb_or (Found.Number z n) w i = Instr.ZbbImm z (rd w) (rs1 w) n
-zbb_or (Found.Unary z) w i = Instr.ZbbImm z (rd w) (rs1 w) 0
-zbb_or Found.Nothing w i = i
+unfoldable pub zbb_or : MaybeZbb → ℕ → Instr → Instr
+zbb_or (Some (Found.Register z)) w i = Instr.Zbb z (rd w) (rs1 w) (rs2 w)
+zbb_or (Some (Found.Number z n)) w i = Instr.ZbbImm z (rd w) (rs1 w) n
+zbb_or (Some (Found.Unary z)) w i = Instr.ZbbImm z (rd w) (rs1 w) 0
+zbb_or None w i = i
 
 unfoldable pub decode32 : ℕ → Instr
 decode32 w = zbb_or (find w) w (base32 w)

@@ -3,7 +3,7 @@
 use Rattle.std.specs.Prelude.{Option, Some, None, ◌≡◌, ℕ, ◌+◌, ◌*◌, ◌<◌, Bool, cond, List, [], ◌∷◌, nat_lt}
 use Rattle.word.specs.Word.{add}
 use Rattle.isa.specs.declared.zbb.Found.{Found}
-use Rattle.isa.specs.Zbb.{find}
+use Rattle.isa.specs.Zbb.{find, MaybeZbb}
 use Rattle.isa.specs.Formats.{inst, opcode, rd, rs1, rs2, funct3, i_imm}
 use Rattle.rv64.specs.declared.alu.Alu.{Alu}
 use Rattle.rv64.specs.declared.alu.Cond.{Cond}
@@ -59,11 +59,11 @@ unfoldable pub op_imm_32 : ℕ → ℕ → Option ℕ
 op_imm_32 w x = computed imms32 (funct3 w) x (i_imm w) (shift_imm_32 w x)
 
 -- what a Zbb instruction computes of x and y
-unfoldable pub zbb_computed : Found → ℕ → ℕ → Option ℕ
-zbb_computed (Found.Register z) x y = Some (zbb_value z x y)
-zbb_computed (Found.Number z n) x y = Some (zbb_value z x n)
-zbb_computed (Found.Unary z) x y = Some (zbb_value z x 0)
-zbb_computed Found.Nothing x y = None
+unfoldable pub zbb_computed : MaybeZbb → ℕ → ℕ → Option ℕ
+zbb_computed (Some (Found.Register z)) x y = Some (zbb_value z x y)
+zbb_computed (Some (Found.Number z n)) x y = Some (zbb_value z x n)
+zbb_computed (Some (Found.Unary z)) x y = Some (zbb_value z x 0)
+zbb_computed None x y = None
 
 -- a computed value in rd
 unfoldable pub put : Option ℕ → ℕ → Effect

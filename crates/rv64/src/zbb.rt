@@ -6,6 +6,7 @@ ghost use Rattle.rv64.specs.Zbb.{zbb_value};
 ghost use Rattle.rv64.specs.Parts as S;
 
 use crate::alu::sextw;
+use isa::zbb::{FUNCT6, FUNCT7, FUNCT12, key};
 
 // x where b, else y.
 fn pick(b: bool, x: u64, y: u64) -> u64
@@ -36,7 +37,7 @@ fn rorw(x: u64, y: u64) -> u64
 fn shift(w: u32, x: u64) -> Option<u64>
     ensures { (y : ℕ) → result ≡ S.zbb_computed (Z.shift_of w) x y }
 {
-    match isa::zbb::key::<26>(w) {
+    match key::<FUNCT6>(w) {
         0b011000_101_0010011 => Some(word::bytes::ror(x, w / 0x10_0000 % 64)),
         _ => None,
     }
@@ -47,7 +48,7 @@ fn shift(w: u32, x: u64) -> Option<u64>
 fn unary(w: u32, x: u64) -> Option<u64>
     ensures { (y : ℕ) → result ≡ S.zbb_computed (Z.unary_of w) x y }
 {
-    match isa::zbb::key::<20>(w) {
+    match key::<FUNCT12>(w) {
         0b011000000000_001_0010011 => Some(word::counts::clz(x)),
         0b011000000001_001_0010011 => Some(word::counts::ctz(x)),
         0b011000000010_001_0010011 => Some(word::counts::cpop(x)),
@@ -68,7 +69,7 @@ fn unary(w: u32, x: u64) -> Option<u64>
 pub fn computed(w: u32, x: u64, y: u64) -> Option<u64>
     ensures { result ≡ S.zbb_computed (Z.find w) x y }
 {
-    match isa::zbb::key::<25>(w) {
+    match key::<FUNCT7>(w) {
         0b0100000_111_0110011 => Some(x & !y),
         0b0100000_110_0110011 => Some(x | !y),
         0b0100000_100_0110011 => Some(!(x ^ y)),

@@ -16,7 +16,7 @@ use Rattle.rv64.specs.Decode as D
 use Rattle.rvc.specs.Compressed as C
 use Rattle.emit_native.specs.declared.Host.{Host}
 use Rattle.isa.specs.declared.zbb.Found.{Found}
-use Rattle.isa.specs.Zbb.{find}
+use Rattle.isa.specs.Zbb.{find, MaybeZbb}
 use Rattle.isa.specs.Decode as Rust
 use Rattle.isa.proofs.ZbbRows.{opcode_of}
 use Rattle.jit_arm64.specs.Fence.{is_fence_i}
@@ -113,18 +113,18 @@ module _ (h : Host) (pc w n : ℕ) where
       is 0x37 (λ e. rw e) (λ q. is 0x17 (λ e. rw e) (λ r. is 0x6F (λ e. rw e) (λ s. is 0x67 (λ e. rw e) (λ t.
       rw (a, b, c, d, f, g, i, j, l, m, o, p, q, r, s, t)))))))))))))))))
 
-  neither : (find w ≡ Found.Nothing → ⊥) → cond (is_fence_i w) 2 (took (Th.emit_native_term_helper32 h pc w (Rust.decode32 w) n).flow) ≡ 0
+  neither : (find w ≡ None → ⊥) → cond (is_fence_i w) 2 (took (Th.emit_native_term_helper32 h pc w (Rust.decode32 w) n).flow) ≡ 0
   unfolding Th.emit_native_term_helper32 Th.opcode_helper
   neither = opcode_of w _ (λ e. rw e) (λ e. rw e) (λ e. rw e) (λ e. rw e)
 
   -- with Zbb first, none of which is a helper's
-  zbb_sorts : (f : Found) → find w ≡ f
+  zbb_sorts : (f : MaybeZbb) → find w ≡ f
       → cond (is_fence_i w) 2 (took (Th.emit_native_term_helper32 h pc w (Rust.decode32 w) n).flow) ≡ sort (D.zbb_or f w (D.base32 w))
   unfolding D.zbb_or sort
-  zbb_sorts Found.Nothing e = base_sorts
-  zbb_sorts (Found.Register z) e = neither (λ q. let y : ◌≡◌ {A = ℕ} 0 1 = cc in omega arith)
-  zbb_sorts (Found.Number z k) e = neither (λ q. let y : ◌≡◌ {A = ℕ} 0 1 = cc in omega arith)
-  zbb_sorts (Found.Unary z) e = neither (λ q. let y : ◌≡◌ {A = ℕ} 0 1 = cc in omega arith)
+  zbb_sorts None e = base_sorts
+  zbb_sorts (Some (Found.Register z)) e = neither (λ q. let y : ◌≡◌ {A = ℕ} 0 1 = cc in omega arith)
+  zbb_sorts (Some (Found.Number z k)) e = neither (λ q. let y : ◌≡◌ {A = ℕ} 0 1 = cc in omega arith)
+  zbb_sorts (Some (Found.Unary z)) e = neither (λ q. let y : ◌≡◌ {A = ℕ} 0 1 = cc in omega arith)
 
   pub sorts32 : cond (is_fence_i w) 2 (took (Th.emit_native_term_helper32 h pc w (Rust.decode32 w) n).flow) ≡ sort (D.decode32 w)
   unfolding D.decode32

@@ -6,6 +6,7 @@ use Prim.Native.Nat.{ℕ, zero, suc, ◌+◌, ◌-◌, ◌≤◌, min}
 use native.Mathlib.Omega.{arith}
 use Rattle.word.specs.Word.{add}
 use Rattle.isa.specs.declared.zbb.Found.{Found}
+use Rattle.isa.specs.Zbb.{MaybeZbb}
 use Rattle.emit_native.specs.declared.EmitFlow.{EmitFlow}
 use Rattle.std.specs.Prelude.{Some, None}
 use Rattle.emit_native.specs.Calls as Calls
@@ -37,21 +38,21 @@ module _ (h : Host) (guest : List ℕ) (start : ℕ) where
     step_same None e helper size i free = refl
 
     -- a Zbb instruction would be counted
-    counted : (c : ℕ) {f : Found} → suc n ≤ c → ((f ≡ Found.Nothing) → ⊥) → ((m : ℕ) → c - n ≡ suc m → f ≡ Found.Nothing) → ⊥
+    counted : (c : ℕ) {f : MaybeZbb} → suc n ≤ c → ((f ≡ None) → ⊥) → ((m : ℕ) → c - n ≡ suc m → f ≡ None) → ⊥
     counted c l other free = other (free (c - suc n) (omega arith))
 
-    zbb_same : (e helper : Emission) (instr size i : ℕ) (f : Found)
+    zbb_same : (e helper : Emission) (instr size i : ℕ) (f : MaybeZbb)
         → ((m : ℕ) → (step (zbb_first f instr e).flow (zbb_first f instr e) helper size start n i (walk product h guest start k)).count - n ≡ suc m
-        → (f ≡ Found.Nothing) × ZbbFree guest start m (i + size))
+        → (f ≡ None) × ZbbFree guest start m (i + size))
         → step e.flow e helper size start n i (walk rust h guest start k)
         ≡ step (zbb_first f instr e).flow (zbb_first f instr e) helper size start n i (walk product h guest start k)
     unfolding zbb_first emission store_rd step
-    zbb_same e helper instr size i Found.Nothing free = step_same e.flow e helper size i (λ m c. (free m c).1)
-    zbb_same e helper instr size i (Found.Register z) free =
+    zbb_same e helper instr size i None free = step_same e.flow e helper size i (λ m c. (free m c).1)
+    zbb_same e helper instr size i (Some (Found.Register z)) free =
         absurd (counted _ (walk-count product h guest start k (suc n) (i + size)) (λ q. let y : ◌≡◌ {A = ℕ} 0 1 = cc in omega arith) (λ m c. (free m c).0))
-    zbb_same e helper instr size i (Found.Number z v) free =
+    zbb_same e helper instr size i (Some (Found.Number z v)) free =
         absurd (counted _ (walk-count product h guest start k (suc n) (i + size)) (λ q. let y : ◌≡◌ {A = ℕ} 0 1 = cc in omega arith) (λ m c. (free m c).0))
-    zbb_same e helper instr size i (Found.Unary z) free =
+    zbb_same e helper instr size i (Some (Found.Unary z)) free =
         absurd (counted _ (walk-count product h guest start k (suc n) (i + size)) (λ q. let y : ◌≡◌ {A = ℕ} 0 1 = cc in omega arith) (λ m c. (free m c).0))
 
     instr_same : (o : Option ℕ) (i : ℕ)

@@ -17,9 +17,8 @@ use Rattle.word.proofs.Orc.{orcb_law}
 use Rattle.word.proofs.Rotations.{rol_law}
 use Rattle.word.proofs.Xnor.{xnor_law}
 use Rattle.isa.specs.declared.zbb.Zbb.{Zbb}
-use Rattle.isa.specs.declared.zbb.Found.{Found}
 use Rattle.isa.specs.Formats.{rd, rs1, rs2}
-use Rattle.isa.specs.Zbb.{unaries, find}
+use Rattle.isa.specs.Zbb.{unaries, find, MaybeZbb}
 use Rattle.isa.proofs.ZbbRows.{found_has}
 use Rattle.a64.specs.Forms.{decode}
 use Rattle.a64_alu.specs.Alu.{op_value, op1_value, holds, holds_even, difference}
@@ -154,7 +153,7 @@ module _ (r₀ : ℕ → ℕ) (pc : ℕ) (v : Model) (κ : Kept r₀ true v) (w 
   pub zbb_agrees : (i : Instr) (e : Emission) → Agrees 4 pc v i e → Agrees 4 pc v (zbb_or (find w) w i) (zbb_first (find w) w e)
   unfolding zbb_or zbb_first emission unaries zbb_value
   zbb_agrees i e other =
-      found_has (λ (f : Found). Agrees 4 pc v (zbb_or f w i) (zbb_first f w e)) w register_agrees number_agrees (
+      found_has (λ (f : MaybeZbb). Agrees 4 pc v (zbb_or f w i) (zbb_first f w e)) w register_agrees number_agrees (
         unary_agrees Zbb.Clz (λ x y. refl),
         (
           unary_agrees Zbb.Ctz (λ x y. refl),

@@ -1,9 +1,8 @@
 -- Translation's block beside the Rust's (demand 2; document 02, Nos. 3, 6 and 7). Definitions only.
-use Rattle.std.specs.Prelude.{◌≡◌, cond, List, map, ℕ, zero, suc, ◌+◌, ◌/◌, ◌%◌, eqb}
+use Rattle.std.specs.Prelude.{◌≡◌, cond, List, map, ℕ, zero, suc, ◌+◌, ◌/◌, ◌%◌, eqb, None}
 use Rattle.std.proofs.Math.Option.{Option, none, some}
 use Rattle.word.specs.Word.{add}
 use Rattle.le.specs.Le.{words}
-use Rattle.isa.specs.declared.zbb.Found.{Found}
 use Rattle.a64_emitter.specs.Emitter.{bytes}
 use Rattle.a64_emitter.specs.Writers.{ldr_x, movz}
 use Rattle.emit_native.specs.declared.Host.{Host}
@@ -24,7 +23,7 @@ without_slot_0 offset w = cond (eqb (w / 32) (ldr_x 0 0 offset / 32)) (movz (w %
 -- an instruction that was fetched is none of Zbb's, which the Rust refuses; rest: the same after it, from its length on
 abbrev pub Free : Option ℕ → (ℕ → Type 0) → Type 0
 Free none rest = Unit {0}
-Free (some instr) rest = (zbb_of instr ≡ Found.Nothing) × rest (size_of instr)
+Free (some instr) rest = (zbb_of instr ≡ None) × rest (size_of instr)
 
 -- none of the first n instructions from index i on is Zbb's (document 02, No. 7)
 abbrev pub ZbbFree : List ℕ → ℕ → ℕ → ℕ → Type 0

@@ -15,6 +15,7 @@ use crate::parts::emit_rotated;
 use crate::unary::emit_unary;
 use a64_emitter::A64Emitter;
 use emit_native::{Emitted, InstrEmitter};
+use isa::zbb::{FUNCT7, key};
 
 mod fields;
 mod number;
@@ -68,7 +69,7 @@ pub fn emit_native_zbb(em: InstrEmitter<'_>, instr: u32) -> Emitted<'_>
     ensures emits { answer result ≡ emitted (held em.entry) (emission (find instr) instr) }
     ensures words_unchanged { result.flow ≡ None → result.em.words.now ≡ em.entry.words.now }
 {
-    match isa::zbb::key::<25>(instr) {
+    match key::<FUNCT7>(instr) {
         // ANDN, ORN, XNOR
         0b0100000_111_0110011 => one(em, instr, A64Emitter::bic_x(11, 9, 10)),
         0b0100000_110_0110011 => one(em, instr, A64Emitter::orn_x(11, 9, 10)),

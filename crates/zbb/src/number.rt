@@ -11,11 +11,12 @@ use crate::fields::{finish, load_number};
 use crate::parts::emit_rotated;
 use a64_emitter::A64Emitter;
 use emit_native::{Emitted, InstrEmitter};
+use isa::zbb::{FUNCT6, key};
 
 // RORIW.
 #[tactic(auto, unfolding(crate::specs::Emission::emission, crate::specs::Words::zbb_body))]
 pub fn emit_roriw(em: InstrEmitter<'_>, instr: u32) -> Emitted<'_>
-    ensures { answer result ≡ emitted (held em.entry) (emission (Found.Number Zbb.Rorw (inst 24 20 instr)) instr) }
+    ensures { answer result ≡ emitted (held em.entry) (emission (Some (Found.Number Zbb.Rorw (inst 24 20 instr))) instr) }
 {
     let n = (instr / 0x10_0000 % 32) as u64;
     let em = load_number(em, instr, n);
@@ -30,7 +31,7 @@ pub fn emit_rori(em: InstrEmitter<'_>, instr: u32) -> Emitted<'_>
     ensures emits { answer result ≡ emitted (held em.entry) (emission (shift_of instr) instr) }
     ensures words_unchanged { result.flow ≡ None → result.em.words.now ≡ em.entry.words.now }
 {
-    if isa::zbb::key::<26>(instr) != 0b011000_101_0010011 {
+    if key::<FUNCT6>(instr) != 0b011000_101_0010011 {
         return em.none();
     }
     let n = (instr / 0x10_0000 % 64) as u64;

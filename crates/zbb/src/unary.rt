@@ -14,6 +14,7 @@ use crate::number::emit_rori;
 use crate::parts::{emit_bytes_of, emit_low_word, emit_ones, emit_shifted, emit_trailing};
 use a64_emitter::A64Emitter;
 use emit_native::{Emitted, InstrEmitter};
+use isa::zbb::{FUNCT12, key};
 
 // CLZ, REV8: a body of one word.
 fn one(em: InstrEmitter<'_>, instr: u32, w: u32) -> Emitted<'_>
@@ -26,7 +27,7 @@ fn one(em: InstrEmitter<'_>, instr: u32, w: u32) -> Emitted<'_>
 // CLZW.
 #[tactic(auto, unfolding(crate::specs::Emission::emission, crate::specs::Words::zbb_body))]
 fn clzw(em: InstrEmitter<'_>, instr: u32) -> Emitted<'_>
-    ensures { answer result ≡ emitted (held em.entry) (emission (Found.Unary Zbb.Clzw) instr) }
+    ensures { answer result ≡ emitted (held em.entry) (emission (Some (Found.Unary Zbb.Clzw)) instr) }
 {
     let em = emit_low_word(load_one(em, instr));
     let em = em
@@ -39,7 +40,7 @@ fn clzw(em: InstrEmitter<'_>, instr: u32) -> Emitted<'_>
 // CTZ.
 #[tactic(auto, unfolding(crate::specs::Emission::emission, crate::specs::Words::zbb_body))]
 fn ctz(em: InstrEmitter<'_>, instr: u32) -> Emitted<'_>
-    ensures { answer result ≡ emitted (held em.entry) (emission (Found.Unary Zbb.Ctz) instr) }
+    ensures { answer result ≡ emitted (held em.entry) (emission (Some (Found.Unary Zbb.Ctz)) instr) }
 {
     finish(emit_trailing(load_one(em, instr)), instr)
 }
@@ -47,7 +48,7 @@ fn ctz(em: InstrEmitter<'_>, instr: u32) -> Emitted<'_>
 // CTZW: the bit above the word is a one.
 #[tactic(auto, unfolding(crate::specs::Emission::emission, crate::specs::Words::zbb_body))]
 fn ctzw(em: InstrEmitter<'_>, instr: u32) -> Emitted<'_>
-    ensures { answer result ≡ emitted (held em.entry) (emission (Found.Unary Zbb.Ctzw) instr) }
+    ensures { answer result ≡ emitted (held em.entry) (emission (Some (Found.Unary Zbb.Ctzw)) instr) }
 {
     let em = load_one(em, instr)
         .mov_imm64(12, 0x1_0000_0000)
@@ -58,7 +59,7 @@ fn ctzw(em: InstrEmitter<'_>, instr: u32) -> Emitted<'_>
 // CPOP.
 #[tactic(auto, unfolding(crate::specs::Emission::emission, crate::specs::Words::zbb_body))]
 fn cpop(em: InstrEmitter<'_>, instr: u32) -> Emitted<'_>
-    ensures { answer result ≡ emitted (held em.entry) (emission (Found.Unary Zbb.Cpop) instr) }
+    ensures { answer result ≡ emitted (held em.entry) (emission (Some (Found.Unary Zbb.Cpop)) instr) }
 {
     finish(emit_ones(load_one(em, instr)), instr)
 }
@@ -66,7 +67,7 @@ fn cpop(em: InstrEmitter<'_>, instr: u32) -> Emitted<'_>
 // CPOPW: the bits above the word are shifted out.
 #[tactic(auto, unfolding(crate::specs::Emission::emission, crate::specs::Words::zbb_body))]
 fn cpopw(em: InstrEmitter<'_>, instr: u32) -> Emitted<'_>
-    ensures { answer result ≡ emitted (held em.entry) (emission (Found.Unary Zbb.Cpopw) instr) }
+    ensures { answer result ≡ emitted (held em.entry) (emission (Some (Found.Unary Zbb.Cpopw)) instr) }
 {
     let em = load_one(em, instr)
         .mov_imm64(12, 32)
@@ -88,7 +89,7 @@ fn extended(em: InstrEmitter<'_>, instr: u32, s: u64) -> Emitted<'_>
 // ZEXT.H.
 #[tactic(auto, unfolding(crate::specs::Emission::emission, crate::specs::Words::zbb_body))]
 fn zexth(em: InstrEmitter<'_>, instr: u32) -> Emitted<'_>
-    ensures { answer result ≡ emitted (held em.entry) (emission (Found.Unary Zbb.ZextH) instr) }
+    ensures { answer result ≡ emitted (held em.entry) (emission (Some (Found.Unary Zbb.ZextH)) instr) }
 {
     let em = load_one(em, instr)
         .mov_imm64(12, 0xFFFF)
@@ -99,7 +100,7 @@ fn zexth(em: InstrEmitter<'_>, instr: u32) -> Emitted<'_>
 // ORC.B: bit 7 of each byte is set where the byte is not 0, and is then spread.
 #[tactic(auto, unfolding(crate::specs::Emission::emission, crate::specs::Words::zbb_body))]
 fn orcb(em: InstrEmitter<'_>, instr: u32) -> Emitted<'_>
-    ensures { answer result ≡ emitted (held em.entry) (emission (Found.Unary Zbb.OrcB) instr) }
+    ensures { answer result ≡ emitted (held em.entry) (emission (Some (Found.Unary Zbb.OrcB)) instr) }
 {
     let em = load_one(em, instr).mov_imm64(12, 0x0101_0101_0101_0101);
     let em = emit_bytes_of(em, 0x7F);
@@ -120,7 +121,7 @@ pub fn emit_unary(em: InstrEmitter<'_>, instr: u32) -> Emitted<'_>
     ensures emits { answer result ≡ emitted (held em.entry) (emission (unary_of instr) instr) }
     ensures words_unchanged { result.flow ≡ None → result.em.words.now ≡ em.entry.words.now }
 {
-    match isa::zbb::key::<20>(instr) {
+    match key::<FUNCT12>(instr) {
         // CLZ, CTZ, CPOP
         0b011000000000_001_0010011 => {
             let w = A64Emitter::clz_x(11, 9);

@@ -1,5 +1,5 @@
+use Rattle.std.specs.Prelude.{None}
 use Rattle.std.proofs.Common.{◌≡◌, ◌∙◌, arith}
-use Rattle.isa.specs.declared.zbb.Found.{Found}
 use Rattle.isa.specs.Zbb.{find}
 use Rattle.isa.proofs.ZbbRows.{is_nothing}
 use Rattle.jit_arm64.proofs.Emitting.{inline16, native32, inline-rust, inline_compiled, zbb_compiled, flow_is}
@@ -26,7 +26,7 @@ returns c = let a = c.args in
     let w = c.if-instr-ne3.false in
     let e = c.emit_native_instr-out.ensures in
     let d = c.decode32-d.ensures in
-    let n : find a.instr ≡ Found.Nothing = elim c.else-is_none.branch [
+    let n : find a.instr ≡ None = elim c.else-is_none.branch [
       | else-is_none-via-then-is_none+else-may_be_zbb s ↦ s.may_be_zbb.ensures s.if-may_be_zbb.false
       | else-is_none-via-else-is_none s ↦
           is_nothing (find a.instr) (λ f. is_taken _ c.is_none.ensures s.if-is_none.false (flow_is _ _ e ∙ rw d (rust_refuses a.pc a.instr (omega arith) f)))
