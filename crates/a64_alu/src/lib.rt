@@ -69,7 +69,7 @@ pub fn op_value(op: Op, x: &[u64; 31], n: u32, m: u32) -> u64
         Op::Lslv => get(x, n) << (get(x, m) % 64),
         Op::Lsrv => get(x, n) >> (get(x, m) % 64),
         Op::Asrv => word::asr(get(x, n), (get(x, m) % 64) as u32),
-        Op::Mul => word::mul(get(x, n), get(x, m)),
+        Op::Mul => get(x, n).wrapping_mul(get(x, m)),
         Op::Smulh => word::mulh(get(x, n), get(x, m)),
         Op::Umulh => word::mulhu(get(x, n), get(x, m)),
         Op::Udiv => udiv(get(x, n), get(x, m)),

@@ -63,12 +63,12 @@ fn run_words(
     ensures memory_lent { machine.new.memory.ghost_name ≡ machine.old.memory.ghost_name }
     ensures size { length machine.new.memory.now ≡ length machine.old.memory.now }
 {
-    let count = (block.len() / 4) as u64;
-    for i in first..count {
-        let k = i - first;
+    let left = ((block.len() / 4) as u64).saturating_sub(first);
+    for k in 0..left {
         if k == budget {
             return (End::Spent, k);
         }
+        let i = first + k;
         match step(machine, block, i as usize) {
             Outcome::Next => {}
             Outcome::Fault => return (End::Fault, k),
@@ -80,7 +80,7 @@ fn run_words(
             }
         }
     }
-    (End::OffEnd, count.saturating_sub(first))
+    (End::OffEnd, left)
 }
 
 // Whether `len` bytes from `base` on end beyond 2^64.

@@ -237,7 +237,7 @@ pub extern "C" fn hilofanur_a64_run_from(
     let before = a64_state::from_bytes(state);
     match a64_run::run::a64_run_from(block, address, first, before, budget, memory, base) {
         Ok(ran) => {
-            a64_state::to_bytes(ran.state, state);
+            a64_state::to_bytes(&ran.state, state);
             A64RunAnswer {
                 refusal: 0,
                 end: u32::from(ran.end),
@@ -267,7 +267,7 @@ pub extern "C" fn hilofanur_rv64_run(
     let before = rv64_hart::from_bytes(registers, pc);
     match rv64_run::run::rv64_run(guest, before, limit, ignore_ebreak) {
         Ok(ran) => {
-            rv64_hart::to_bytes(ran.hart, registers);
+            rv64_hart::to_bytes(&ran.hart, registers);
             Rv64RunAnswer {
                 refusal: 0,
                 count: ran.count,

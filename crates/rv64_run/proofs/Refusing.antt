@@ -65,6 +65,28 @@ module _ (h : Hart) (go : ℕ → Hart → Ran) (p : (size : ℕ) (h : Hart) →
   by_first (Some (Instr.Helper, size)) = refl
   by_first (Some (Instr.Uncovered, size)) = refl
 
+-- a run that did nothing left the hart as it was
+module _ (h : Hart) (go : ℕ → Hart → Ran) (p : (size : ℕ) (h : Hart) → 1 ≤ (go size h).count) where
+  done : (size : ℕ) (h' : Hart) → (go size h').count ≡ 0 → ⊥
+  done size h' c = let q = p size h' in omega arith
+
+  unmoved-by : (f : Fetched) → (step f h 0 go).count ≡ 0 → (step f h 0 go).hart ≡ h
+  unfolding step onward exec
+  unmoved-by None c = refl
+  unmoved-by (Some (Instr.Op k rd rs1 rs2, size)) c = absurd (done size _ c)
+  unmoved-by (Some (Instr.OpImm k rd rs1 imm, size)) c = absurd (done size _ c)
+  unmoved-by (Some (Instr.Zbb k rd rs1 rs2, size)) c = absurd (done size _ c)
+  unmoved-by (Some (Instr.ZbbImm k rd rs1 imm, size)) c = absurd (done size _ c)
+  unmoved-by (Some (Instr.Lui rd imm, size)) c = absurd (done size _ c)
+  unmoved-by (Some (Instr.Auipc rd imm, size)) c = absurd (done size _ c)
+  unmoved-by (Some (Instr.Jal rd imm, size)) c = absurd (omega arith)
+  unmoved-by (Some (Instr.Jalr rd rs1 imm, size)) c = absurd (omega arith)
+  unmoved-by (Some (Instr.Branch k rs1 rs2 imm, size)) c = absurd (omega arith)
+  unmoved-by (Some (Instr.Nop, size)) c = absurd (done size _ c)
+  unmoved-by (Some (Instr.FenceI, size)) c = absurd (omega arith)
+  unmoved-by (Some (Instr.Helper, size)) c = refl
+  unmoved-by (Some (Instr.Uncovered, size)) c = refl
+
 refused-at_first : (stop : Stop) (h : Hart) (r : Ran) → numbers (Err (record { refusal = at_first stop; given = h })) ≡ answer_of (Some (at_first stop)) h.x r
 unfolding at_first answer_of number
 refused-at_first Stop.NotFetched h r = refl
@@ -97,3 +119,12 @@ module _ (g : List ℕ) (h : Hart) (limit : ℕ) (e : Bool) (q : limit ≡ 0 →
   pub accepted : {r : Ran} → r ≡ run e (clamped limit) 0 g h → (r.count ≡ 0 → ⊥) → numbers (Ok (in_run r)) ≡ answer g h limit e
   unfolding first answer_of number
   accepted {r} s c = by_outcome s None (rw (ne_eqb r.count 0 c))
+
+  unmoved-run : (k : ℕ) → (run e (suc k) 0 g h).count ≡ 0 → (run e (suc k) 0 g h).hart ≡ h
+  unfolding run
+  unmoved-run k c = unmoved-by h _ (λ size h'. counted e k 1 (drop size g) h') (fetch e g) c
+
+  pub unmoved : {r : Ran} → r ≡ run e (clamped limit) 0 g h → r.count ≡ 0 → r.hart ≡ h
+  unmoved {r} s c =
+      let k : clamped limit ≡ suc (clamped limit - 1) = omega arith in
+      rw (s, k) (unmoved-run (clamped limit - 1) (rw (← k, ← s) c))

@@ -9,7 +9,7 @@ use rv64::decode::step32;
 use rv64::execute::Flow;
 use rvc::step16;
 
-#[derive(Clone, Copy)]
+#[derive(Drop)]
 pub struct Hart {
     pub x: [u64; 32],
     pub pc: u64,
@@ -152,7 +152,7 @@ pub fn rv64_run(
     if ran.count == 0 {
         return Err(Refused {
             refusal: at_first(ran.stop),
-            given: hart,
+            given: ran.hart,
         });
     }
     ran.hart.x[0] = 0;

@@ -16,8 +16,8 @@ pub fn from_bytes(b: &[u8; 264]) -> A64State
     A64State { x, sp, flags }
 }
 
-pub fn to_bytes(s: A64State, b: &mut [u8; 264])
-    ensures { b.new ≡ States.a64_bytes s }
+pub fn to_bytes(s: &A64State, b: &mut [u8; 264])
+    ensures { b.new ≡ States.a64_bytes s.now }
 {
     le::write64(&s.x, b);
     le::store(b, 248, s.sp);

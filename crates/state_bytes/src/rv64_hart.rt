@@ -13,8 +13,8 @@ pub fn from_bytes(b: &[u8; 256], pc: u64) -> Hart
     Hart { x, pc }
 }
 
-pub fn to_bytes(h: Hart, b: &mut [u8; 256])
-    ensures { b.new ≡ all_bytes 8 h.x }
+pub fn to_bytes(h: &Hart, b: &mut [u8; 256])
+    ensures { b.new ≡ all_bytes 8 h.now.x }
 {
     le::write64(&h.x, b);
 }

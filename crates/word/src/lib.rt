@@ -1,4 +1,5 @@
-// Arithmetic of 64-bit registers, by the language's own numbers. Each function equals the definition of its name.
+// Arithmetic of 64-bit registers, by the language's own numbers. Each function equals the definition of its name; sums,
+// differences and products modulo 2^64 are the numbers' own `wrapping_add`, `wrapping_sub` and `wrapping_mul`.
 #![tactic(auto)]
 
 ghost use Rattle.std.specs.Prelude.{◌≡◌, ◌*◌, ◌^◌, ◌<◌, ◌≤◌};
@@ -7,26 +8,12 @@ ghost use Rattle.word.specs.Word as W;
 pub mod bytes;
 pub mod counts;
 
-// x - y, modulo 2^64.
-pub fn sub(x: u64, y: u64) -> u64
-    ensures { result ≡ W.sub x y }
-{
-    x.wrapping_sub(y)
-}
-
 // The product of two numbers of 32 bits.
 fn product32(x: u64, y: u64) -> u64
     requires { (x < 2 ^ 32) × (y < 2 ^ 32) }
     ensures { (result ≡ x * y) × (result ≤ 0xFFFF_FFFE_0000_0001) }
 {
     x * y
-}
-
-// x * y, modulo 2^64.
-pub fn mul(x: u64, y: u64) -> u64
-    ensures { result ≡ W.mul x y }
-{
-    x.wrapping_mul(y)
 }
 
 // Bits 127 to 64 of the unsigned product.

@@ -20,7 +20,7 @@ two_more vs m v w i h l =
 
 pub returns : goal.returns
 returns c = let a = c.args in
-    let l : length a.s.x ≡ 31 = search rules in
+    let l : length a.s.now.x ≡ 31 = search rules in
     rw
     (c.store-2.ensures, c.from.ensures, c.store.ensures, c.write64.ensures)
-    (two_more a.s.x a.b.now _ _ 248 (omega arith) (omega arith))
+    (two_more a.s.now.x a.b.now _ _ 248 (omega arith) (omega arith))
