@@ -133,6 +133,7 @@ fn decode_register(w: u32) -> Form
 }
 
 // The form of a word, by its upper eleven bits.
+#[tactic(auto, using(crate::proofs::Coding::quarter, crate::proofs::Coding::half, crate::proofs::Coding::not_quarter), unfolding(crate::specs::Forms::decode))]
 pub fn decode(w: u32) -> Form
     ensures { result ≡ decode w }
 {
@@ -221,6 +222,7 @@ fn form_9b(w: u32) -> Form
     Form::DataProcessing(op, rd, rn, rm)
 }
 
+#[tactic(auto, unfolding(crate::specs::Parts::form_of))]
 fn form_by_byte(w: u32) -> Form
     ensures { result ≡ form_of w }
 {

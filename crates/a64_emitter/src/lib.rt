@@ -11,7 +11,7 @@ mod writers;
 use rules::{INSTR_WORDS, MAX_WORDS, SHORT_WORDS};
 
 // The words of a block, with their count.
-#[derive(Drop)]
+#[derive(Clone, Copy)]
 pub struct BlockEmitter<const N: usize> {
     pub words: [u32; N],
     pub len: usize,
@@ -102,7 +102,11 @@ pub fn append_at(words: &mut [u32], at: usize, part: &[u32; INSTR_WORDS], len: u
     if len == 0 {
         return at;
     }
-    words[at..at + INSTR_WORDS].copy_from_slice(part);
+    // Kept: tried copy_from_slice, which compares the addresses, so that the whole block emitter is copied
+    let part = *part;
+    for i in 0..INSTR_WORDS {
+        words[at + i] = part[i];
+    }
     at + len.min(INSTR_WORDS)
 }
 
@@ -111,7 +115,10 @@ pub fn copy_front(words: &mut [u32], from: &[u32], len: usize)
     requires { (len ≤ length words.old) × (len ≤ length from.now) }
     ensures { take len words.new ≡ take len from.now }
 {
-    words[..len].copy_from_slice(&from[..len]);
+    // Kept: tried copy_from_slice, as in `append_at`
+    for i in 0..len {
+        words[i] = from[i];
+    }
 }
 
 // The words that a block's array holds, as bytes at the front of `out`, where they fit; how many bytes they are.
@@ -156,8 +163,8 @@ impl<const N: usize> BlockEmitter<N> {
     }
 
     // The words as bytes at the front of `out`, where they fit; how many bytes they are.
-    pub fn finish(&self, out: &mut [u8]) -> usize
-        ensures { Written (block_words self.now) out.old result out.new }
+    pub fn finish(self, out: &mut [u8]) -> usize
+        ensures { Written (block_words self.entry) out.old result out.new }
     {
         write_words(&self.words, self.len, out)
     }

@@ -12,6 +12,7 @@ pub fn digit(d: u32) -> u8
 }
 
 // The eight digits of v as the bytes of a number, the first the lowest.
+#[tactic(auto, using(crate::proofs::Lanes::hex8))]
 pub fn hex_digits(v: u32) -> u64
     ensures { bytes 8 result ≡ hex 8 v }
 {

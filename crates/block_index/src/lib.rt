@@ -136,6 +136,7 @@ fn sweep_at(m: &mut Index, e: Entry, room: u64, p: Slot) -> u64
 }
 
 // Drops the blocks that are evicted, from the last slot to the first; for how many others there is room then.
+#[tactic(auto, using(crate::proofs::Steps::swept_step, crate::proofs::Steps::room_left_step), unfolding(crate::specs::Index::swept, crate::specs::Index::room_left))]
 fn sweep(m: &mut Index, e: Entry, room: u64) -> u64
     ensures { (m.new ≡ I.swept m.old e room (L.used m.old)) × (result ≡ I.room_left m.old e room (L.used m.old)) }
 {

@@ -57,6 +57,7 @@ pub struct Entry {
 }
 
 // The bucket of a key.
+#[tactic(auto, using(fnv1a::proofs::Laws::more_append), unfolding(crate::specs::Log::bucket))]
 pub fn bucket(space: u64, pc: u64) -> usize
     ensures { (result ≡ L.bucket space pc) × (result < 2048) }
 {
@@ -97,6 +98,7 @@ pub fn entry_at(m: &Index, p: Slot) -> Entry
     }
 }
 
+#[tactic(auto, unfolding(crate::specs::Log::put))]
 fn put(m: &mut Index, p: Slot, e: Entry, next: Slot)
     ensures { m.new ≡ L.put m.old p.number e next.number }
 {
@@ -160,6 +162,7 @@ pub fn empty(m: &mut Index)
 }
 
 // An entry after the last slot used, the head of its chain.
+#[tactic(auto, unfolding(crate::specs::Log::pushed))]
 pub fn push(m: &mut Index, e: Entry)
     ensures { m.new ≡ L.pushed m.old e }
 {

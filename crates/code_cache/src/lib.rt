@@ -15,6 +15,7 @@ pub struct Placed {
 }
 
 // The bytes of `code` over those of `store` from `at` on.
+#[tactic(auto, unfolding(le::specs::Le::splice))]
 pub fn copy(store: &mut [u8], at: usize, code: &[u8])
     requires { at + length code.now ≤ length store.old }
     ensures { store.new ≡ splice store.old at code.now }
@@ -23,6 +24,7 @@ pub fn copy(store: &mut [u8], at: usize, code: &[u8])
 }
 
 // The code goes to `used`, rounded up to a multiple of 4. Nothing overflows: what is left of the store is compared.
+#[tactic(auto, using(crate::proofs::Placing::beyond, crate::proofs::Placing::no_room, crate::proofs::Placing::room))]
 pub fn place(store: &mut [u8], used: u64, code: &[u8]) -> Result<Placed, Refusal>
     ensures { P.result (P.answer result) store.new ≡ P.place store.old used code.now }
 {

@@ -17,6 +17,7 @@ fn wrapping_mul(a: u32, b: u32) -> u32
     a.wrapping_mul(b)
 }
 
+#[tactic(auto, unfolding(crate::specs::Fnv1a::step))]
 fn step(h: u32, b: u8) -> u32
     ensures { result ≡ F.step h b }
 {
@@ -44,6 +45,7 @@ pub fn more64(h: u32, v: u64) -> u32
     h
 }
 
+#[tactic(auto, using(crate::proofs::Laws::more_folded))]
 pub fn fnv1a(s: &[u8]) -> u32
     ensures { result ≡ F.fnv1a s.now }
 {

@@ -4,7 +4,7 @@ ghost use Rattle.isa.specs.Formats.{opcode};
 ghost use Rattle.isa.specs.Classes.{class_of};
 
 // The opcodes of isa.rs that the translator tells apart; every other one is Other.
-#[derive(Drop)]
+#[derive(Clone, Copy, PartialEq, Eq, Debug)]
 pub enum Class {
     Load,
     LoadFp,
@@ -29,6 +29,7 @@ pub enum Class {
 // of more the compiler makes a table in read-only memory, which tools/readonly refuses.
 
 // Row 00.
+#[tactic(auto, unfolding(crate::specs::Classes::class_of))]
 fn row_00(n: u32) -> Class
     requires { n < 0b0100000 }
     ensures { result ≡ class_of n }
@@ -50,6 +51,7 @@ fn row_00(n: u32) -> Class
 }
 
 // Row 01.
+#[tactic(auto, unfolding(crate::specs::Classes::class_of))]
 fn row_01(n: u32) -> Class
     requires { (0b0100000 ≤ n) × (n < 0b1000000) }
     ensures { result ≡ class_of n }
@@ -71,6 +73,7 @@ fn row_01(n: u32) -> Class
 }
 
 // Row 11, and row 10, which has none of them.
+#[tactic(auto, unfolding(crate::specs::Classes::class_of))]
 fn row_11(n: u32) -> Class
     requires { 0b1000000 ≤ n }
     ensures { result ≡ class_of n }

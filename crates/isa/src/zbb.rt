@@ -3,7 +3,7 @@ ghost use Rattle.std.specs.Prelude.{◌≡◌, ◌+◌, ◌*◌, ◌/◌, ◌^�
 ghost use Rattle.isa.specs.Formats as F;
 
 // What is computed.
-#[derive(Drop)]
+#[derive(Clone, Copy, PartialEq, Eq, Debug)]
 pub enum Zbb {
     Andn,
     Orn,
@@ -30,7 +30,7 @@ pub enum Zbb {
 }
 
 // A Zbb instruction, by its second operand.
-#[derive(Drop)]
+#[derive(Clone, Copy, PartialEq, Eq, Debug)]
 pub enum Found {
     // register rs2
     Register(Zbb),

@@ -219,6 +219,23 @@ fn walk(words: &mut [u32], guest: &[u8], start: u64, from: Walked, most: u32, ho
     }
 }
 
+// The same in an emitter's array. Kept: without this function between the walk and its callers the compiler leaves a
+// copy of the whole emitter.
+fn walk_array<const N: usize>(
+    words: &mut [u32; N],
+    guest: &[u8],
+    start: u64,
+    from: Walked,
+    most: u32,
+    host: Host,
+) -> Walked
+    requires { (inline_words + end_words ≤ length words.old) × (host.slot_offset ≤ max_slot_offset) × (most ≤ max_instrs) × Walking host guest.now start most words.old from.len from.i from.n }
+    ensures onward { Onward host guest.now start most from.n words.new result }
+    ensures long { length words.new ≡ N }
+{
+    walk(words, guest, start, from, most, host)
+}
+
 // The block from `start` on, of at most `most` instructions, in a short emitter: the words of its instructions, then its
 // end; or, where it is full, the words so far.
 pub fn compile_native_block(
@@ -239,7 +256,7 @@ pub fn compile_native_block(
         fence: false,
         full: false,
     };
-    let done = walk(&mut em.words, guest, start, from, most, host);
+    let done = walk_array(&mut em.words, guest, start, from, most, host);
     em.len = done.len;
     let stop = done.stop;
     let next = start.wrapping_add(done.i as u64);
@@ -264,7 +281,7 @@ pub fn continue_native_block(
     let mut long = A64Emitter::new();
     // as many as there can be: a test of their number would bring a copy of the long emitter
     a64_emitter::copy_front(&mut long.words, before, SHORT_INSTRS * INLINE_WORDS);
-    let done = walk(&mut long.words, guest, start, from, most, host);
+    let done = walk_array(&mut long.words, guest, start, from, most, host);
     long.len = done.len;
     let stop = done.stop;
     let after = start.wrapping_add(done.i as u64);

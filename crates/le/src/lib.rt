@@ -112,6 +112,7 @@ pub fn store<N: Number>(s: &mut [u8], at: usize, v: N)
 }
 
 // The numbers at the front of b, into x.
+#[tactic(auto, using(crate::proofs::Lists::read_more), unfolding(crate::specs::Le::numbers))]
 pub fn read64(b: &[u8], x: &mut [u64])
     requires { 8 * length x.old ≤ length b.now }
     ensures { x.new ≡ numbers 8 (length x.old) b.now }
@@ -122,6 +123,7 @@ pub fn read64(b: &[u8], x: &mut [u64])
 }
 
 // The numbers of x over the front of b.
+#[tactic(auto, using(crate::proofs::Lists::write_more), unfolding(crate::specs::Le::all_bytes))]
 pub fn write64(x: &[u64], b: &mut [u8])
     requires { 8 * length x.now ≤ length b.old }
     ensures { b.new ≡ over 8 x.now b.old }

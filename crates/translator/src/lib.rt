@@ -102,8 +102,10 @@ fn go_on_long(
     ensures { (limit : ℕ) → most ≡ min limit max_instrs → T.result (numbers result) output.new ≡ T.translate host guest.now pc limit output.old }
 {
     let found = block::continue_native_block(before, from, guest, pc, most, host);
-    let length = found.em.finish(output);
-    answer_for(found.done, length, output.len())
+    let done = found.done;
+    let em = found.em;
+    let length = em.finish(output);
+    answer_for(done, length, output.len())
 }
 
 // The same. `translate` calls this in two places, so that it stays a function of its own: the long emitter is no part of
@@ -146,23 +148,16 @@ pub fn translate(
     let most = limit.min(rules::MAX_INSTRS);
     let found = block::compile_native_block(guest, pc, most, host);
     let done = found.done;
+    let em = found.em;
     // no branch before this: it would bring a copy of the emitter
     let room = room_of(done, output.len());
-    let length = found.em.finish(&mut output[0..room]);
+    let length = em.finish(&mut output[0..room]);
     if done.full {
         // Kept: a `min` would leave one call, which the compiler would take into this frame with the long emitter.
         if limit < rules::MAX_INSTRS {
-            return go_on(&found.em.words, done, guest, pc, limit, host, output);
+            return go_on(&em.words, done, guest, pc, limit, host, output);
         }
-        return go_on(
-            &found.em.words,
-            done,
-            guest,
-            pc,
-            rules::MAX_INSTRS,
-            host,
-            output,
-        );
+        return go_on(&em.words, done, guest, pc, rules::MAX_INSTRS, host, output);
     }
     if done.n == 0 {
         if let Stop::NotFetched = done.stop {

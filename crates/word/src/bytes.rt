@@ -3,6 +3,7 @@ ghost use Rattle.std.specs.Prelude.{◌≡◌, ◌<◌};
 ghost use Rattle.word.specs.Bytes as B;
 
 // The bytes in the opposite order.
+#[tactic(auto, unfolding(crate::specs::Bytes::reversed))]
 pub fn reversed(x: u64) -> u64
     ensures { result ≡ B.reversed 8 x }
 {
@@ -10,6 +11,7 @@ pub fn reversed(x: u64) -> u64
 }
 
 // Each byte all ones where it is not 0.
+#[tactic(auto, using(crate::proofs::Orc::picked_8))]
 pub fn combined(x: u64) -> u64
     ensures { result ≡ B.combined 8 x }
 {
@@ -19,6 +21,7 @@ pub fn combined(x: u64) -> u64
 }
 
 // A rotation to the right by s places.
+#[tactic(auto, using(crate::proofs::Rotations::right_by))]
 pub fn ror(x: u64, s: u32) -> u64
     requires { s < 64 }
     ensures { result ≡ B.ror x s }
@@ -27,6 +30,7 @@ pub fn ror(x: u64, s: u32) -> u64
 }
 
 // A rotation to the left by s places.
+#[tactic(auto, using(crate::proofs::Rotations::left_by))]
 pub fn rol(x: u64, s: u32) -> u64
     requires { s < 64 }
     ensures { result ≡ B.rol x s }

@@ -3,6 +3,7 @@ ghost use Rattle.std.specs.Prelude.{◌≡◌};
 ghost use Rattle.word.specs.Counts as C;
 
 // The zeros above the highest bit that is set.
+#[tactic(auto, using(crate::proofs::Counting::leading_is))]
 pub fn clz(x: u64) -> u64
     ensures { result ≡ C.clz 64 x }
 {
@@ -10,6 +11,7 @@ pub fn clz(x: u64) -> u64
 }
 
 // The zeros below the lowest bit that is set.
+#[tactic(auto, using(crate::proofs::Counting::trailing_is))]
 pub fn ctz(x: u64) -> u64
     ensures { result ≡ C.ctz 64 x }
 {
@@ -17,6 +19,7 @@ pub fn ctz(x: u64) -> u64
 }
 
 // The bits that are set.
+#[tactic(auto, using(crate::proofs::Counting::ones_is))]
 pub fn cpop(x: u64) -> u64
     ensures { result ≡ C.cpop 64 x }
 {
@@ -25,6 +28,7 @@ pub fn cpop(x: u64) -> u64
 
 // The same of the low word.
 // Kept: no plainer: a function for each width is one line, and one over both widths needs a trait of its own.
+#[tactic(auto, using(crate::proofs::Counting::leading_low))]
 pub fn clzw(x: u64) -> u64
     ensures { result ≡ C.clz 32 x }
 {

@@ -30,6 +30,7 @@ pub fn mul(x: u64, y: u64) -> u64
 }
 
 // Bits 127 to 64 of the unsigned product.
+#[tactic(auto, using(crate::proofs::Products::whole, crate::proofs::Products::high_of))]
 pub fn mulhu(x: u64, y: u64) -> u64
     ensures { result ≡ W.mulhu x y }
 {
@@ -43,6 +44,7 @@ pub fn mulhu(x: u64, y: u64) -> u64
 }
 
 // Bits 127 to 64 of the product of a signed and an unsigned number.
+#[tactic(auto, using(crate::proofs::Laws::mulhsu_positive, crate::proofs::Laws::mulhsu_negative))]
 pub fn mulhsu(x: u64, y: u64) -> u64
     ensures { result ≡ W.mulhsu x y }
 {
@@ -55,6 +57,7 @@ pub fn mulhsu(x: u64, y: u64) -> u64
 }
 
 // Bits 127 to 64 of the signed product.
+#[tactic(auto, using(crate::proofs::Laws::mulh_positive, crate::proofs::Laws::mulh_negative))]
 pub fn mulh(x: u64, y: u64) -> u64
     ensures { result ≡ W.mulh x y }
 {
@@ -82,6 +85,7 @@ pub fn asr(x: u64, s: u32) -> u64
 }
 
 // The low k bits of x, extended by their sign.
+#[tactic(auto, using(crate::proofs::Extend::by_shifts))]
 pub fn sext(x: u64, k: u32) -> u64
     requires { (1 ≤ k) × (k ≤ 64) }
     ensures { result ≡ W.sext k x }
@@ -102,6 +106,7 @@ pub fn sdiv(x: u64, y: u64) -> u64
 }
 
 // The remainder of the signed division, with the dividend's sign; x for the divisor 0.
+#[tactic(auto, using(crate::proofs::Casts::nonzero), unfolding(crate::specs::Word::srem, crate::specs::Word::magnitude))]
 pub fn srem(x: u64, y: u64) -> u64
     ensures { result ≡ W.srem x y }
 {

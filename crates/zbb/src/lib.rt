@@ -65,6 +65,7 @@ fn rotated(em: InstrEmitter<'_>, instr: u32, there: u32, back: u32) -> Emitted<'
 }
 
 // A Zbb instruction; for any other no words, and the array as it was.
+#[tactic(auto, unfolding(crate::specs::Words::zbb_body, crate::specs::Emission::emission, isa::specs::Zbb::registers, isa::specs::Zbb::word_shifts, isa::specs::Zbb::word_shift_of, isa::specs::Zbb::find, emit_native::specs::Parts::answer))]
 pub fn emit_native_zbb(em: InstrEmitter<'_>, instr: u32) -> Emitted<'_>
     ensures emits { answer result ≡ emitted (held em.entry) (emission (find instr) instr) }
     ensures words_unchanged { result.flow ≡ None → result.em.words.now ≡ em.entry.words.now }

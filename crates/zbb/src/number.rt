@@ -27,6 +27,7 @@ pub fn emit_roriw(em: InstrEmitter<'_>, instr: u32) -> Emitted<'_>
 }
 
 // RORI, or no Zbb instruction.
+#[tactic(auto, unfolding(crate::specs::Words::zbb_body, crate::specs::Emission::emission, isa::specs::Zbb::shifts, isa::specs::Zbb::shift_of, emit_native::specs::Parts::answer))]
 pub fn emit_rori(em: InstrEmitter<'_>, instr: u32) -> Emitted<'_>
     ensures emits { answer result ≡ emitted (held em.entry) (emission (shift_of instr) instr) }
     ensures words_unchanged { result.flow ≡ None → result.em.words.now ≡ em.entry.words.now }

@@ -117,6 +117,7 @@ fn orcb(em: InstrEmitter<'_>, instr: u32) -> Emitted<'_>
 }
 
 // Found by funct12, or as RORI.
+#[tactic(auto, unfolding(crate::specs::Words::zbb_body, crate::specs::Emission::emission, isa::specs::Zbb::unaries, isa::specs::Zbb::unary_of, emit_native::specs::Parts::answer))]
 pub fn emit_unary(em: InstrEmitter<'_>, instr: u32) -> Emitted<'_>
     ensures emits { answer result ≡ emitted (held em.entry) (emission (unary_of instr) instr) }
     ensures words_unchanged { result.flow ≡ None → result.em.words.now ≡ em.entry.words.now }

@@ -6,18 +6,18 @@ use Rattle.jit_arm64.proofs.Walking.{begin}
 use Rattle.jit_arm64.proofs.Ending.{ends, closed, kept}
 use Rattle.jit_arm64.proofs.block.compile_native_block.Goals as goal
 
-pub walk-done-requires : goal.walk-done-requires
-walk-done-requires c =
+pub walk_array-done-requires : goal.walk_array-done-requires
+walk_array-done-requires c =
     let long : length c.new-em.result.words ≡ short_words = search rules in
-    (omega (arith, long), c.requires.0, c.requires.1, begin _ _ _ _ _ (omega (arith, long)) c.ranges.start.fits refl refl refl)
+    (omega arith, (omega (arith, long), c.requires.0, c.requires.1, begin _ _ _ _ _ (omega (arith, long)) c.ranges.start.fits refl refl refl))
 
 pub returns : goal.returns
 unfolding block_words
 returns c = let a = c.args in
-    let o = c.walk-done.ensures in
-    let r = c.walk-done.result in
-    let l = c.walk-done.new.words in
-    let long : length l ≡ short_words = search rules in
+    let o = c.walk_array-done.ensures.onward in
+    let r = c.walk_array-done.result in
+    let l = c.walk_array-done.new.words in
+    let long : length l ≡ short_words = c.walk_array-done.ensures.long in
     let em = c.emit_if-em.result in
     let gs = ends a.host.slot_offset r.stop (add a.start r.i) r.n in
     let e : take em.len em.words ≡ in_turn short_words (take r.len l) gs =
