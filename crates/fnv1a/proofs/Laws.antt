@@ -3,9 +3,6 @@ use Prim.Native.Nat.{ℕ}
 use mathlib.Core.Path.{◌≡◌, refl}
 use mathlib.Core.List.{List, [], ◌∷◌, ◌++◌}
 use Rattle.std.specs.List.{fold}
-use Rattle.std.specs.Int.{bytes_low_first}
-use Rattle.le.specs.Le.{bytes}
-use Rattle.le.proofs.Arrays.{low_bytes}
 use Rattle.fnv1a.specs.Fnv1a.{step, more}
 
 pub more_append : (h : ℕ) (a b : List ℕ) → more h (a ++ b) ≡ more (more h a) b
@@ -17,6 +14,3 @@ pub more_folded : (h : ℕ) (s : List ℕ) → fold step h s ≡ more h s
 unfolding more
 more_folded h [] = refl
 more_folded h (b ∷ s) = more_folded (step h b) s
-
-pub low_bytes_folded : (k h v : ℕ) → fold step h (bytes_low_first 0 k v) ≡ more h (bytes k v)
-low_bytes_folded k h v = rw (low_bytes k v, more_folded)
