@@ -4,25 +4,28 @@
 
 use std::io;
 
-fn print_hash(rt: &impl Print, text: &[u8]) -> io::Result<()> {
-    println!(rt; "{:08x}", fnv1a::fnv1a(text))
-}
+const TEXTS: [&[u8]; 16] = [
+    b"",
+    b"a",
+    b"b",
+    b"c",
+    b"d",
+    b"e",
+    b"f",
+    b"fo",
+    b"foo",
+    b"foob",
+    b"fooba",
+    b"foobar",
+    b"\0",
+    b"a\0",
+    b"foobar\0",
+    b"chongo was here!\n",
+];
 
 fn main(rt: HostRuntime) -> io::Result<()> {
-    print_hash(&rt, b"")?;
-    print_hash(&rt, b"a")?;
-    print_hash(&rt, b"b")?;
-    print_hash(&rt, b"c")?;
-    print_hash(&rt, b"d")?;
-    print_hash(&rt, b"e")?;
-    print_hash(&rt, b"f")?;
-    print_hash(&rt, b"fo")?;
-    print_hash(&rt, b"foo")?;
-    print_hash(&rt, b"foob")?;
-    print_hash(&rt, b"fooba")?;
-    print_hash(&rt, b"foobar")?;
-    print_hash(&rt, b"\0")?;
-    print_hash(&rt, b"a\0")?;
-    print_hash(&rt, b"foobar\0")?;
-    print_hash(&rt, b"chongo was here!\n")
+    for text in TEXTS {
+        println!(rt; "{:08x}", fnv1a::fnv1a(text))?;
+    }
+    Ok(())
 }
