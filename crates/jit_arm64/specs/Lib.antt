@@ -1,3 +1,4 @@
 pub mod Block
 pub mod Fence
+pub mod Fetched
 pub mod Parts

@@ -4,7 +4,7 @@ use Rattle.std.proofs.Math.Option.{Option, none, some}
 use Rattle.word.specs.Word.{add}
 use Rattle.rules.specs.Limits.{inline_words, end_words, max_words, max_instrs}
 use Rattle.a64_emitter.specs.Parts.{block_words}
-use Rattle.fetch_window.specs.Parts.{Read}
+use Rattle.jit_arm64.specs.Fetched.{Read}
 use Rattle.emit_native.specs.declared.Host.{Host}
 use Rattle.emit_native.specs.declared.EmitFlow.TheVariants.{Continue, Terminate}
 use Rattle.emit_native.specs.declared.Emitted.{Emitted}
@@ -14,13 +14,13 @@ use Rattle.jit_arm64.specs.declared.block.Stop.{Stop}
 use Rattle.jit_arm64.specs.declared.block.Stop.TheVariants.{Limit, Ended, Helper, Uncovered, NotFetched}
 use Rattle.jit_arm64.specs.declared.block.Walked.{Walked}
 use Rattle.jit_arm64.specs.declared.block.NativeBlock.{NativeBlock}
-use Rattle.jit_arm64.specs.Block.{emit_inline, emit_term_helper, Walk, in_front, walk, whole_walk, block_calls}
+use Rattle.jit_arm64.specs.Block.{size_of, emit_inline, emit_term_helper, Walk, in_front, walk, whole_walk, block_calls}
 use Rattle.jit_arm64.specs.Fence.{to_fence, fence, limit_at}
 
--- what was fetched, as the code has it
+-- what was fetched, with its length in bytes, as the code has it
 unfoldable pub fetched : Option ℕ → Read
 fetched none = None
-fetched (some instr) = Some instr
+fetched (some instr) = Some (record { size = size_of instr; instr = instr })
 
 -- where the low two bits are not 11, the number has 16 bits
 abbrev pub Narrow : ℕ → Type 0
@@ -28,7 +28,7 @@ Narrow instr = (instr % 4 ≢ 3) → instr < 2 ^ 16
 
 pub record FetchedOf (f : Option ℕ) (r : Read) : Type 0 where
   pub found : r ≡ fetched f
-  pub narrow : IfSome r (λ instr. Narrow instr)
+  pub narrow : IfSome r (λ x. Narrow x.instr)
 
 -- the words of calls alone in an emitter, and with the flow
 abbrev pub alone : ℕ → List Call → Held

@@ -10,7 +10,7 @@ ghost use Rattle.jit_arm64.specs.Block.{emit_inline, emit_term_helper};
 ghost use Rattle.jit_arm64.specs.Fence.{is_fence_i};
 ghost use Rattle.jit_arm64.specs.Parts.{Narrow, alone, Compiled, unfit, Walking, Onward, Partly, ShortOf, LongOf, sets_next, has_return, helped_count, helped_stop, is_full};
 
-use crate::fetch::{fetch, size_of};
+use crate::fetch::fetch;
 use a64_emitter::{A64Emitter, BlockEmitter, ShortEmitter};
 use emit_native::{EmitFlow, Emitted, Host, InstrEmitter};
 use rules::{END_WORDS, INLINE_WORDS, INSTR_WORDS, MAX_WORDS, SHORT_INSTRS, SHORT_WORDS};
@@ -189,24 +189,24 @@ fn walk(words: &mut [u32], guest: &[u8], start: u64, from: Walked, most: u32, ho
             break Stop::Limit;
         }
         let pc = start.wrapping_add(i as u64);
-        let Some(instr) = fetch(guest, start, pc) else {
+        let Some(found) = fetch(guest, start, pc) else {
             break Stop::NotFetched;
         };
-        let out = emit_native(&mut part, host, pc, instr);
+        let out = emit_native(&mut part, host, pc, found.instr);
         let Some(flow) = out.flow else {
-            let helper = emit_term_helper(out.em, host, pc, instr, n);
+            let helper = emit_term_helper(out.em, host, pc, found.instr, n);
             let taken = helper.flow;
             len = helper.em.append_to(words, len);
             n += helped(taken);
             break helper_stop(taken);
         };
         len = out.em.append_to(words, len);
-        i += size_of(instr);
+        i += found.size;
         n += 1;
         if let EmitFlow::Terminate = flow {
             break Stop::Ended;
         }
-        if is_fence_i(instr) {
+        if is_fence_i(found.instr) {
             fence = true;
             break Stop::Limit;
         }
