@@ -27,13 +27,6 @@ pub fn halfword_at(bytes: &[u8], i: u64) -> Option<u16>
     Some(le::load::<u16>(bytes, i))
 }
 
-// The halfword at a PC.
-pub fn halfword_at_pc(bytes: &[u8], start: u64, pc: u64) -> Option<u16>
-    ensures { result ≡ read_u16 bytes.now start pc }
-{
-    halfword_at(bytes, pc.wrapping_sub(start))
-}
-
 impl<'a> FetchWindow<'a> {
     pub fn new(bytes: &'a [u8], start: u64) -> FetchWindow<'a>
         ensures { (result.bytes ≡ bytes.entry) × (result.start ≡ start) }
@@ -41,16 +34,10 @@ impl<'a> FetchWindow<'a> {
         FetchWindow { bytes, start }
     }
 
+    // The halfword at a PC.
     pub fn read_u16(self, pc: u64) -> Option<u16>
         ensures { result ≡ read_u16 self.entry.bytes.now self.entry.start pc }
     {
-        halfword_at_pc(self.bytes, self.start, pc)
+        halfword_at(self.bytes, pc.wrapping_sub(self.start))
     }
-}
-
-// A fetch with plain parameters.
-pub fn read_u16(bytes: &[u8], start: u64, pc: u64) -> Option<u16>
-    ensures { result ≡ read_u16 bytes.now start pc }
-{
-    FetchWindow::new(bytes, start).read_u16(pc)
 }

@@ -4,7 +4,7 @@ ghost use Rattle.fetch_window.specs.Parts.{index};
 ghost use Rattle.jit_arm64.specs.Block.{half, is_32, fetch_upper, fetch};
 ghost use Rattle.jit_arm64.specs.Parts.{FetchedOf};
 
-use fetch_window::read_u16;
+use fetch_window::FetchWindow;
 
 // An instruction and its length in bytes. Kept with the length, which the instruction says too: computed from it the next
 // index waits for the instruction, and C.NOPs take 1.17 times their time.
@@ -19,7 +19,11 @@ fn fetch_upper(guest: &[u8], start: u64, pc: u64, instr16: u16) -> Option<Fetche
     requires { (index start pc + 2 ≤ length guest.now) × (instr16 ≡ half guest.now (index start pc)) × (is_32 instr16 ≡ true) }
     ensures { FetchedOf (fetch_upper guest.now (index start pc)) result }
 {
-    let upper = read_u16(guest, start, pc.wrapping_add(2))?;
+    let window = FetchWindow {
+        bytes: guest,
+        start,
+    };
+    let upper = window.read_u16(pc.wrapping_add(2))?;
     Some(Fetched {
         size: 4,
         instr: upper as u32 * 65536 + instr16 as u32,
@@ -32,7 +36,11 @@ pub fn fetch(guest: &[u8], start: u64, pc: u64) -> Option<Fetched>
     if pc % 2 == 1 {
         return None;
     }
-    let instr16 = read_u16(guest, start, pc)?;
+    let window = FetchWindow {
+        bytes: guest,
+        start,
+    };
+    let instr16 = window.read_u16(pc)?;
     if instr16 % 4 == 3 {
         return fetch_upper(guest, start, pc, instr16);
     }
