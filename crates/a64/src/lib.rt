@@ -35,7 +35,8 @@ pub enum Op1 {
     Clz,
 }
 
-// The 30 forms: 17 with three registers, two with one source and 11 others, with their fields in the order of the assembler.
+// The 30 forms: 17 with three registers, two with one source and 11 others, with their fields in the order of the
+// assembler.
 #[derive(Drop)]
 pub enum Form {
     // op, rd, rn, rm
@@ -60,7 +61,7 @@ pub enum Form {
     // rn
     Blr(u32),
     Ret,
-    // Kept: no plainer as None: to the machine it is an instruction that ends the run, with a row like any form's.
+    // Kept: by what may not change: the clause `outside` of `Outside` in listing/specs/Listing.antt names it.
     // any other word
     // Kept: what may not change: `encode-decode` of proofs/Coding.antt and `Lists` of the listing speak of it.
     Unreadable,

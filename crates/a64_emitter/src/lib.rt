@@ -11,6 +11,7 @@ mod writers;
 use rules::{INSTR_WORDS, MAX_WORDS, SHORT_WORDS};
 
 // The words of a block, with their count.
+// Kept: an array with its count, by a rule of the project: fixed memory, and a named form of document 01.
 #[derive(Clone, Copy)]
 pub struct BlockEmitter<const N: usize> {
     pub words: [u32; N],
@@ -103,7 +104,7 @@ pub fn append_at(words: &mut [u32], at: usize, part: &[u32; INSTR_WORDS], len: u
     if len == 0 {
         return at;
     }
-    // Kept: tried copy_from_slice, which compares the addresses, so that the whole block emitter is copied
+    // Kept: tried, misses the bar of speed: copy_from_slice compares the addresses, and the whole emitter is copied.
     let part = *part;
     for i in 0..INSTR_WORDS {
         words[at + i] = part[i];
@@ -116,7 +117,7 @@ pub fn copy_front(words: &mut [u32], from: &[u32], len: usize)
     requires { (len ≤ length words.old) × (len ≤ length from.now) }
     ensures { take len words.new ≡ take len from.now }
 {
-    // Kept: tried copy_from_slice, as in `append_at`
+    // Kept: tried, misses the bar of speed: copy_from_slice, as in `append_at`.
     for i in 0..len {
         words[i] = from[i];
     }

@@ -14,7 +14,8 @@ fn three_registers(fixed: u32, rd: u8, rn: u8, rm: u8) -> u32
 }
 
 impl A64Emitter {
-    // Kept: a function for each form, by a rule of the project: the Rust's names; what they share is `three_registers`.
+    // Kept: a function for each form, and registers as u8 with their bounds here and in the emitters, by a rule of the
+    // project: the Rust's names and parameters. What they share is `three_registers`.
     // LDR Xt, [Xn, #off]; off is in bytes, a multiple of 8.
     pub fn ldr_x(rt: u8, rn: u8, off: u16) -> u32
         requires { (rt < 32) × (rn < 32) × (off < 32768) }

@@ -85,6 +85,7 @@ impl Machine<'_> {
     }
 
     // A form that leaves v in register rd.
+    // Kept: what stays lent, in five contracts: no plainer in a record, which a caller's check would not look into.
     fn put(&mut self, rd: u32, v: u64) -> Outcome
         ensures goes { after result (held self.new) ≡ next (with_reg (held self.old) rd v) }
         ensures x_lent { self.new.x.ghost_name ≡ self.old.x.ghost_name }

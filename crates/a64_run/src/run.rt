@@ -39,6 +39,7 @@ pub struct Ran {
 }
 
 // Word i of the block, read and executed.
+// Kept: what stays lent, here and in a64_exec: no plainer in a record, which a caller's check would not look into.
 #[tactic(auto, using(a64::proofs::Coding::decode_in_range))]
 fn step(machine: &mut Machine, block: &[u8], i: usize) -> Outcome
     requires { 4 * i + 4 ≤ length block.now }

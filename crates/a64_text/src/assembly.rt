@@ -8,6 +8,7 @@ use crate::operand::{Rest, SP};
 use a64::{Form, Op, Op1};
 
 // Mnemonics with a blank after them: their bytes, of which the lowest is the first.
+// Kept: mnemonics as numbers, by the bar of speed: their bytes are written at once (docs/DESIGN.md, 'The listing').
 const ADD: u64 = 0x2064_6461;
 
 const SUB: u64 = 0x2062_7573;

@@ -7,6 +7,7 @@ ghost use Rattle.ascii.specs.Parts.{Wrote, Room};
 use crate::digits::{digit, hex_digits};
 use le::Number;
 
+// Kept: no plainer by Display: its bytes would come by way of a formatter, into memory that is not lent.
 #[derive(Drop)]
 pub struct Writer<'a> {
     pub out: &'a mut [u8],

@@ -13,6 +13,7 @@ use rules::refusals::Refusal;
 // ---- lookup
 
 // Kept: tried, misses the bar of speed: with && or || here and in sweep_at, placing takes 1.8 times the time.
+// Kept: space and pc side by side, by the C interface and by what may not change: `lookup` of specs/Model.antt.
 fn key_at(m: &Index, space: u64, pc: u64, p: Slot) -> bool
     ensures { result ≡ I.key_at m.now space pc p.number }
 {
@@ -67,7 +68,7 @@ pub fn refused(size: u64, n: u64) -> bool
 
 // Where the last block placed ends, 0 where there is none that ends at the bound or before. Nothing overflows: what
 // is left is compared.
-// Kept: 0 and no Option: 0 is the store's front, where the next block then goes.
+// Kept: 0 and no Option, no plainer: 0 is the store's front, where the next block then goes.
 pub fn last_end(m: &Index, bound: u64) -> u64
     ensures { (result ≡ I.last_end m.now bound) × (result ≤ bound) }
 {

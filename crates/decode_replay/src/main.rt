@@ -9,6 +9,7 @@ fn byte(record: &[u8], at: usize) -> u8 {
     record.get(at).copied().unwrap_or(0)
 }
 
+// Kept: field by field, no plainer as ==: a record is no Decoded32, and one would be built for it.
 fn fields_agree(record: &[u8], instr: u32) -> bool {
     let d = decode::decode32(instr);
     d.opcode == byte(record, 4)

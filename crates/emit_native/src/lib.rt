@@ -25,6 +25,7 @@ pub const C_GE: u8 = 0xA;
 pub const C_LT: u8 = 0xB;
 
 // The emitter of one instruction: an array that is lent, how many words it holds of it, and the slot offset.
+// Kept: an array with its count, by a rule of the project: fixed memory.
 #[derive(Drop)]
 pub struct InstrEmitter<'a> {
     pub words: &'a mut [u32; INSTR_WORDS],

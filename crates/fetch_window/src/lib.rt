@@ -1,5 +1,5 @@
-// The fetch window: `read_u16` of the original's `Bus`, for instruction fetches. A halfword is none where fewer than two
-// bytes are left.
+// The fetch window: `read_u16` of the original's `Bus`, for instruction fetches. A halfword is none where fewer than
+// two bytes are left.
 #![tactic(auto)]
 
 ghost use Rattle.std.specs.Prelude.{◌≡◌};

@@ -21,7 +21,8 @@ use listing::ListRefusal;
 use rules::refusals::Refusal;
 use state_bytes::{a64_state, rv64_hart};
 
-// The refusal, 0 where the block was written; its length in bytes; its count of instructions; the number of its end kind.
+// The refusal, 0 where the block was written; its length in bytes; its count of instructions; the number of its end
+// kind.
 #[repr(C)]
 #[derive(Drop)]
 pub struct TranslateAnswer {
@@ -77,7 +78,8 @@ pub struct Rv64RunAnswer {
     pub next_pc: u64,
 }
 
-// The refusal, 0 where the lines were written; how many bytes they have; beside refusal 13 the offset of a word outside the forms.
+// The refusal, 0 where the lines were written; how many bytes they have; beside refusal 13 the offset of a word outside
+// the forms.
 #[repr(C)]
 #[derive(Drop)]
 pub struct ListAnswer {
@@ -127,7 +129,8 @@ impl From<Result<u64, Refusal>> for IndexPlaceAnswer {
     }
 }
 
-// The refusal, 0 where the block was found; where its code starts in the store, its length, its count of guest instructions.
+// The refusal, 0 where the block was found; where its code starts in the store, its length, its count of guest
+// instructions.
 #[repr(C)]
 #[derive(Drop)]
 pub struct IndexLookupAnswer {

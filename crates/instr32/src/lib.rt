@@ -23,6 +23,7 @@ fn emit_lui(em: InstrEmitter<'_>, instr: u32, d: Decoded32) -> Emitted<'_>
     em.mov_reg(d.rd, isa::decode::imm_u(instr)).go_on()
 }
 
+// Kept: pc, instr and d side by side, by a rule of the project: the Rust's parameters.
 #[tactic(auto, unfolding(crate::specs::Instr32::auipc))]
 fn emit_auipc(em: InstrEmitter<'_>, pc: u64, instr: u32, d: Decoded32) -> Emitted<'_>
     requires { InRange d }

@@ -4,7 +4,7 @@ ghost use Rattle.word.specs.Word.{sext};
 ghost use Rattle.isa.specs.Formats.{i_imm, s_imm, b_imm, u_imm, j_imm, ciw_imm, ci_imm, ci16_imm, cj_imm, cb_imm, shamt_c};
 ghost use Rattle.isa.specs.Parts.{decoded};
 
-// Kept: no ghost fields for its registers' bounds: `decode32` of specs/Decode.antt builds it, and would hold proofs.
+// Kept: bounds in contracts and not here, by what may not change: `decode32` of specs/Decode.antt builds it.
 #[derive(Clone, Copy)]
 pub struct Decoded32 {
     pub opcode: u8,

@@ -5,6 +5,7 @@ pub mod classes;
 pub mod decode;
 pub mod zbb;
 
+// Kept: numbers, by a rule of the project: the constants of isa.rs, matched as they are there.
 // Opcodes, bits 6 to 0.
 pub const OPCODE_LUI: u32 = 0b0110111;
 

@@ -76,6 +76,8 @@ fn emit_zbb(mut em: InstrEmitter<'_>, instr: u32) -> Emitted<'_>
 
 // The inline words of an instruction, by its width, in a new emitter. The Rust's emitter refuses every Zbb instruction,
 // so that its answer stands where it is another, and a block without Zbb does not pay for Zbb.
+// Kept: the slot offset's bound here and below is no ghost field of Host, by what may not change: Translate takes any
+// offset, and refuses by 1.
 fn emit_native(part: &mut [u32; INSTR_WORDS], host: Host, pc: u64, instr: u32) -> Emitted<'_>
     requires { (host.slot_offset ≤ max_slot_offset) × Narrow instr }
     ensures { Compiled host.slot_offset (emit_inline product host pc instr).calls (emit_inline product host pc instr).flow result }
@@ -222,8 +224,8 @@ fn walk(words: &mut [u32], guest: &[u8], start: u64, from: Walked, most: u32, ho
     }
 }
 
-// The same in an emitter's array. Kept: without this function between the walk and its callers the compiler leaves a
-// copy of the whole emitter.
+// The same in an emitter's array.
+// Kept: tried without it, misses the bar of speed: the compiler leaves a copy of the whole emitter.
 fn walk_array<const N: usize>(
     words: &mut [u32; N],
     guest: &[u8],
@@ -239,8 +241,8 @@ fn walk_array<const N: usize>(
     walk(words, guest, start, from, most, host)
 }
 
-// The block from `start` on, of at most `most` instructions, in a short emitter: the words of its instructions, then its
-// end; or, where it is full, the words so far.
+// The block from `start` on, of at most `most` instructions, in a short emitter: the words of its instructions, then
+// its end; or, where it is full, the words so far.
 // Kept: guest, start, most and host side by side, by a rule of the project: the Rust's parameters in its order.
 pub fn compile_native_block(
     guest: &[u8],

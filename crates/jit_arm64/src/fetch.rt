@@ -6,7 +6,8 @@ ghost use Rattle.jit_arm64.specs.Parts.{FetchedOf};
 
 use fetch_window::FetchWindow;
 
-// An instruction and its length in bytes. Kept with the length, which the instruction says too: computed from it the next
+// An instruction and its length in bytes.
+// Kept: with the length, which the instruction says too: tried, misses the bar of speed. Computed from it, the next
 // index waits for the instruction, and C.NOPs take 1.17 times their time.
 #[derive(Clone, Copy)]
 pub struct Fetched {

@@ -38,7 +38,7 @@ impl Number for u8 {
     }
 }
 
-// Kept: an impl for each width: no macro of the repository's own may write it.
+// Kept: an impl for each width, by a rule of the project: `rt ci` refuses one that a macro of its own wrote.
 impl Number for u16 {
     ghost WIDTH = { 2 };
 

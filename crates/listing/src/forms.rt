@@ -1,5 +1,5 @@
-// Whether a word is outside the forms, as a number, by the tests of `decode` without its branches. Every word of a block is asked before one is
-// written, and the compiler asks several at once.
+// Whether a word is outside the forms, as a number, by the tests of `decode` without its branches. Every word of a
+// block is asked before one is written, and the compiler asks several at once.
 // Kept: tried, misses the bar of speed: by `decode` a listing takes 1.4 times the time.
 ghost use Rattle.std.specs.Prelude.{◌≡◌, cond};
 ghost use Rattle.a64.specs.Forms.{decode, decode_op, decode_register, ops};

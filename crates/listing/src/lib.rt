@@ -56,6 +56,7 @@ fn put_line(out: &mut Writer, offset: u32, w: u32)
 }
 
 // How many bytes the lines have: each is written over the one before it.
+// Kept: `Listable` in three contracts, no plainer as a type: it would hold the block and be built once.
 fn listing_length(block: &[u8]) -> usize
     requires { Listable block.now }
     ensures { result ≡ length (L.listing (L.block_lines block.now)) }

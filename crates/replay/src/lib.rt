@@ -168,7 +168,8 @@ pub fn report(rt: &impl Print, rest: &[u8], tally: Tally, name: &str) -> io::Res
     Ok(())
 }
 
-// Replays a file's cases and says how many there were and how many differ. Where it has no header, they go on to its end.
+// Replays a file's cases and says how many there were and how many differ. Where it has no header, they go on to its
+// end.
 // A file that goes on after them differs too.
 pub fn replay_file<F: FnMut(&mut &[u8]) -> Option<bool>>(
     rt: &(impl Files + Print + Eprint + AllocGlobal),

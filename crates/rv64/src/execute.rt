@@ -28,6 +28,7 @@ pub enum Effect {
     Uncovered,
 }
 
+// Kept: n < 32 in three contracts: no plainer as a type, which each caller would make of a remainder.
 #[tactic(auto, unfolding(crate::specs::Execute::read))]
 pub fn read(x: &[u64; 32], n: u32) -> u64
     requires { n < 32 }

@@ -84,7 +84,7 @@ pub fn run(guest: &[u8], limit: u32, ignore_ebreak: bool, hart: Hart) -> Ran
     let mut h = hart;
     let mut at: usize = 0;
     let mut n: u32 = 0;
-    // Kept: a loop, by a named form of document 01: the walk breaks with an enum.
+    // Kept: a loop, no plainer as a for: the place moves by the instruction's length, and the run breaks with an enum.
     let stop = loop {
         if n == limit {
             break Stop::Limit;
@@ -126,7 +126,8 @@ fn at_first(stop: Stop) -> Refusal
     }
 }
 
-// The operation RV64 run. No instruction reads register 0's entry or writes it: it is given back as 0 (document 02, No. 6).
+// The operation RV64 run. No instruction reads register 0's entry or writes it: it is given back as 0 (document 02,
+// No. 6).
 pub fn rv64_run(
     guest: &[u8],
     hart: Hart,

@@ -18,6 +18,7 @@ fn unless(reserved: bool, e: Effect) -> Effect
     if reserved { Effect::Uncovered } else { e }
 }
 
+// Kept: x, w, flag and pc side by side: no plainer as a struct, which `effect16` alone would make.
 fn quadrant0(x: &[u64; 32], w: u16, pc: u64) -> Effect
     ensures { S.Gives result (C.quadrant0 w) 2 pc x.now }
 {

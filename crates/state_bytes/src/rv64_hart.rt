@@ -5,6 +5,7 @@ ghost use Rattle.state_bytes.specs.States as States;
 
 use rv64_run::run::Hart;
 
+// Kept: no plainer as From: it takes a PC besides, and to_bytes writes into lent bytes.
 pub fn from_bytes(b: &[u8; 256], pc: u64) -> Hart
     ensures { result ≡ States.rv64_hart b.now pc }
 {

@@ -11,6 +11,7 @@ use a64_emitter::A64Emitter;
 use emit_native::{Emitted, Host, InstrEmitter};
 use isa::decode::Decoded32;
 
+// Kept: numbers, by the C interface: the memory helper is called with them.
 const MEM_OP_LB: u64 = 0;
 
 const MEM_OP_LH: u64 = 1;
@@ -170,6 +171,7 @@ fn store_op(funct3: u32) -> Option<u64>
     }
 }
 
+// Kept: this and `emit_store_helper`, no plainer as one: operation and emitter would be two closures.
 #[tactic(auto, unfolding(crate::specs::TermHelper::load_helper))]
 fn emit_load_helper(
     em: InstrEmitter<'_>,

@@ -108,9 +108,10 @@ fn go_on_long(
     answer_for(done, length, output.len())
 }
 
-// The same. `translate` calls this in two places, so that it stays a function of its own: the long emitter is no part of
-// the frame of `translate`. The compiler takes the one above into it and looks for copies once more, and leaves none of an
-// emitter.
+// The same.
+// Kept: tried, misses the bar of speed as one: `translate` calls this in two places, so that it stays a function of its
+// own and the long emitter is no part of that frame. The compiler takes the one above into it, and looks for copies
+// once more.
 fn go_on(
     before: &[u32; SHORT_WORDS],
     from: Walked,
@@ -153,7 +154,8 @@ pub fn translate(
     let room = room_of(done, output.len());
     let length = em.finish(&mut output[0..room]);
     if done.full {
-        // Kept: a `min` would leave one call, which the compiler would take into this frame with the long emitter.
+        // Kept: tried, misses the bar of speed: a `min` leaves one call, which is taken into this frame with the long
+        // emitter.
         if limit < rules::MAX_INSTRS {
             return go_on(&em.words, done, guest, pc, limit, host, output);
         }

@@ -64,6 +64,7 @@ pub fn slt(x: u64, y: u64) -> bool
 }
 
 // x shifted right by s places with copies of its sign bit.
+// Kept: s < 64 here and in two rotations: no plainer as a type, which each caller would make of a remainder.
 pub fn asr(x: u64, s: u32) -> u64
     requires { s < 64 }
     ensures { result ≡ W.asr x s }
