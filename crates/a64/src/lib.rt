@@ -62,7 +62,6 @@ pub enum Form {
     Ret,
     // Kept: no plainer as None: to the machine it is an instruction that ends the run, with a row like any form's.
     // any other word
-    // Kept: what may not change: `encode-decode` of proofs/Coding.antt and `Lists` of the listing speak of it.
     Unreadable,
 }
 
