@@ -63,7 +63,6 @@ pub enum Form {
     Ret,
     // Kept: by what may not change: the clause `outside` of `Outside` in listing/specs/Listing.antt names it.
     // any other word
-    // Kept: what may not change: `encode-decode` of proofs/Coding.antt and `Lists` of the listing speak of it.
     Unreadable,
 }
 
