@@ -28,13 +28,13 @@ pub then : (h : Held) (cs : List Call) (e : Emission) (rd : ℕ) → stored (emi
 then h cs e rd = rw (after_append h cs (e.calls ++ store_rd e.flow rd), after_append (after h cs) e.calls (store_rd e.flow rd)) refl
 
 -- a call that a test asks for
-pub asked : (h : Held) (test : Bool) (w : ℕ) → record { words = emitted_in instr_words h.words (emitted_if test w); slot_offset = h.slot_offset } ≡ after h (emit_if test w)
+pub asked : (h : Held) (test : Bool) (w : ℕ) → record { words = emitted_in instr_words h.words (emitted_if test w); slot_offset = h.slot_offset; lent = h.lent } ≡ after h (emit_if test w)
 unfolding emitted_if
 asked h true w = refl
 asked h false w = rw (emitted-none instr_words h.words) refl
 
 -- what is then held, by groups
-pub after_is : (h : Held) (cs : List Call) → after h cs ≡ record { words = in_turn instr_words h.words (groups h.slot_offset cs); slot_offset = h.slot_offset }
+pub after_is : (h : Held) (cs : List Call) → after h cs ≡ record { words = in_turn instr_words h.words (groups h.slot_offset cs); slot_offset = h.slot_offset; lent = h.lent }
 after_is h [] = refl
 after_is h (c ∷ cs) = after_is (after h (c ∷ [])) cs
 

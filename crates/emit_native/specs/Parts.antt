@@ -12,24 +12,29 @@ use Rattle.emit_native.specs.Calls.{Call, Flow, emit, call_words, product, Emiss
 abbrev pub InRange : Decoded32 → Type 0
 InRange d = (d.rd < 32) × (d.rs1 < 32) × (d.rs2 < 32)
 
--- ---- an instruction's emitter: the words that it holds, and its slot offset
+-- ---- an instruction's emitter: the words that it holds, its slot offset, and which array was lent to it
 
 pub record Held : Type 0 where
   pub words : List ℕ
   pub slot_offset : ℕ
+  pub lent : ℕ
 
 unfoldable pub held : InstrEmitter → Held
-held e = record { words = take e.len e.words.now; slot_offset = e.slot_offset }
+held e = record { words = take e.len e.words.now; slot_offset = e.slot_offset; lent = e.words.ghost_name }
 
 -- of a new one
-abbrev pub nothing : ℕ → Held
-nothing slot_offset = record { words = []; slot_offset = slot_offset }
+abbrev pub nothing : ℕ → ℕ → Held
+nothing lent slot_offset = record { words = []; slot_offset = slot_offset; lent = lent }
+
+-- with the slots at an offset
+abbrev pub at_slots : ℕ → Held → Held
+at_slots slot_offset h = record { words = h.words; slot_offset = slot_offset; lent = h.lent }
 
 -- after calls, each of which adds its words, or none where they do not fit
 abbrev pub after : Held → List Call → Held
 after h [] = h
 after h (c ∷ cs) =
-    after (record { words = emitted_in instr_words h.words (call_words product h.slot_offset c); slot_offset = h.slot_offset }) cs
+    after (record { words = emitted_in instr_words h.words (call_words product h.slot_offset c); slot_offset = h.slot_offset; lent = h.lent }) cs
 
 -- the call that a test asks for
 abbrev pub emit_if : Bool → ℕ → List Call

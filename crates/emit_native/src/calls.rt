@@ -3,7 +3,7 @@ ghost use Rattle.std.specs.Prelude.{◌≡◌, [], ◌∷◌, ◌+◌, ◌<◌, 
 ghost use Rattle.rules.specs.Limits.{instr_words, max_slot_offset};
 ghost use Rattle.a64_emitter.specs.Parts.{Added};
 ghost use Rattle.emit_native.specs.Calls.{Call, Dialect, load_word, reg_off, if_not_0, continue, terminate, none};
-ghost use Rattle.emit_native.specs.Parts.{held, nothing, after, emit_if, answer, emitted, stores, stored};
+ghost use Rattle.emit_native.specs.Parts.{held, nothing, at_slots, after, emit_if, answer, emitted, stores, stored};
 
 use crate::{EmitFlow, Emitted, InstrEmitter};
 use a64_emitter::A64Emitter;
@@ -11,13 +11,26 @@ use rules::INSTR_WORDS;
 
 impl<'a> InstrEmitter<'a> {
     #[tactic(auto, unfolding(crate::specs::Parts::held))]
-    pub fn new(words: &'a mut [u32; INSTR_WORDS], slot_offset: u64) -> Self
-        requires { slot_offset ≤ max_slot_offset }
-        ensures { held result ≡ nothing slot_offset }
+    pub fn new(words: &'a mut [u32; INSTR_WORDS]) -> Self
+        ensures { held result ≡ nothing words.entry.ghost_name 0 }
     {
         InstrEmitter {
             words,
             len: 0,
+            slot_offset: 0,
+        }
+    }
+
+    // The emitter with the slots at an offset from X0.
+    #[tactic(auto, unfolding(crate::specs::Parts::held))]
+    pub fn with_slots(self, slot_offset: u64) -> Self
+        requires { slot_offset ≤ max_slot_offset }
+        ensures { held result ≡ at_slots slot_offset (held self.entry) }
+    {
+        let InstrEmitter { words, len, .. } = self;
+        InstrEmitter {
+            words,
+            len,
             slot_offset,
         }
     }

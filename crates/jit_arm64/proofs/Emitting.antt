@@ -57,14 +57,14 @@ put {l} {l'} {n} {r} {ws} room same added =
 -- ---- what an answer says
 
 -- of calls alone in an emitter
-abbrev compiled : ℕ → List Call → Flow → Answer
-compiled slot_offset cs f = record { held = alone slot_offset cs; flow = f }
+abbrev compiled : ℕ → ℕ → List Call → Flow → Answer
+compiled lent slot_offset cs f = record { held = alone lent slot_offset cs; flow = f }
 
-is_compiled : (slot_offset : ℕ) (cs : List Call) (f : Flow) (r : Emitted) → answer r ≡ compiled slot_offset cs f → Compiled slot_offset cs f r
+is_compiled : (lent slot_offset : ℕ) (cs : List Call) (f : Flow) (r : Emitted) → answer r ≡ compiled lent slot_offset cs f → Compiled lent slot_offset cs f r
 unfolding answer
-is_compiled slot_offset cs f r e = record { holds = ap (λ (a : Answer). a.held) e; flow = ap (λ (a : Answer). a.flow) e }
+is_compiled lent slot_offset cs f r e = record { holds = ap (λ (a : Answer). a.held) e; flow = ap (λ (a : Answer). a.flow) e }
 
-pub words_are : {slot_offset : ℕ} {cs : List Call} {f : Flow} {r : Emitted} → Compiled slot_offset cs f r → (held r.em).words ≡ words slot_offset cs
+pub words_are : {lent slot_offset : ℕ} {cs : List Call} {f : Flow} {r : Emitted} → Compiled lent slot_offset cs f r → (held r.em).words ≡ words slot_offset cs
 words_are c = ap (λ (h : Held). h.words) c.holds
 
 pub flow_is : (r : Emitted) (a : Answer) → answer r ≡ a → r.flow ≡ a.flow
@@ -302,49 +302,50 @@ module _ (slot_offset : ℕ) where
       (λ t. rw t (native-apart h pc instr k b))
 
   -- calls whose words all fit in a new emitter
-  fitting : (cs : List Call) → size slot_offset cs ≤ instr_words → after (nothing slot_offset) cs ≡ alone slot_offset cs
+  fitting : (lent : ℕ) (cs : List Call) → size slot_offset cs ≤ instr_words → after (nothing lent slot_offset) cs ≡ alone lent slot_offset cs
   unfolding words_in
-  fitting cs few = after_is (nothing slot_offset) cs ∙ rw (in_turn-fits instr_words [] (groups slot_offset cs) (omega (arith, few))) refl
+  fitting lent cs few = after_is (nothing lent slot_offset) cs ∙ rw (in_turn-fits instr_words [] (groups slot_offset cs) (omega (arith, few))) refl
 
-  by_new : (e : Emission) → size slot_offset e.calls ≤ instr_words → emitted (nothing slot_offset) e ≡ compiled slot_offset e.calls e.flow
-  by_new e few = rw (fitting e.calls few) refl
+  by_new : (lent : ℕ) (e : Emission) → size slot_offset e.calls ≤ instr_words → emitted (nothing lent slot_offset) e ≡ compiled lent slot_offset e.calls e.flow
+  by_new lent e few = rw (fitting lent e.calls few) refl
 
   -- what the code's emitters answer, from a new emitter
-  compiled_as : (x : Emission) → size slot_offset x.calls ≤ inline_words → {e : Emission} (r : Emitted) → x ≡ e → answer r ≡ emitted (nothing slot_offset) e
-      → Compiled slot_offset x.calls x.flow r
-  compiled_as x few {e} r q is = let small = rw q at few in rw q (is_compiled slot_offset e.calls e.flow r (is ∙ by_new e (omega (arith, small))))
+  compiled_as : (x : Emission) → size slot_offset x.calls ≤ inline_words → {lent : ℕ} {e : Emission} (r : Emitted) → x ≡ e → answer r ≡ emitted (nothing lent slot_offset) e
+      → Compiled lent slot_offset x.calls x.flow r
+  compiled_as x few {lent} {e} r q is = let small = rw q at few in rw q (is_compiled lent slot_offset e.calls e.flow r (is ∙ by_new lent e (omega (arith, small))))
 
-  pub inline_compiled : (h : Host) (pc instr : ℕ) {e : Emission} (r : Emitted) → emit_inline product h pc instr ≡ e → answer r ≡ emitted (nothing slot_offset) e
-      → Compiled slot_offset (emit_inline product h pc instr).calls (emit_inline product h pc instr).flow r
+  pub inline_compiled : (h : Host) (pc instr : ℕ) {lent : ℕ} {e : Emission} (r : Emitted) → emit_inline product h pc instr ≡ e → answer r ≡ emitted (nothing lent slot_offset) e
+      → Compiled lent slot_offset (emit_inline product h pc instr).calls (emit_inline product h pc instr).flow r
   inline_compiled h pc instr = compiled_as (emit_inline product h pc instr) (inline-size h pc instr)
 
   -- and from what the inline emitter left
-  handed_on : (e helper : Emission) → Apart e helper → emitted (alone slot_offset e.calls) helper ≡ compiled slot_offset (e.calls ++ helper.calls) helper.flow
+  handed_on : (lent : ℕ) (e helper : Emission) → Apart e helper → emitted (alone lent slot_offset e.calls) helper ≡ compiled lent slot_offset (e.calls ++ helper.calls) helper.flow
   unfolding words_in flatten
-  handed_on e helper (inl a) = rw (a, append-nil e.calls) refl
-  handed_on e helper (inr a) = rw a.0 (by_new helper a.2)
+  handed_on lent e helper (inl a) = rw (a, append-nil e.calls) refl
+  handed_on lent e helper (inr a) = rw a.0 (by_new lent helper a.2)
 
-  pub compiled_helper : (h : Host) (pc instr k : ℕ) {helper : Emission} (r : Emitted) → k < 65536 → emit_term_helper h pc instr k ≡ helper
-      → answer r ≡ emitted (alone slot_offset (emit_inline product h pc instr).calls) helper
-      → Compiled slot_offset ((emit_inline product h pc instr).calls ++ (emit_term_helper h pc instr k).calls) (emit_term_helper h pc instr k).flow r
-  compiled_helper h pc instr k {helper} r b q is =
-      rw q (is_compiled slot_offset _ helper.flow r (is ∙ handed_on (emit_inline product h pc instr) helper (rw q at (inline-apart h pc instr k b))))
+  pub compiled_helper : (h : Host) (pc instr k : ℕ) {lent : ℕ} {helper : Emission} (r : Emitted) → k < 65536 → emit_term_helper h pc instr k ≡ helper
+      → answer r ≡ emitted (alone lent slot_offset (emit_inline product h pc instr).calls) helper
+      → Compiled lent slot_offset ((emit_inline product h pc instr).calls ++ (emit_term_helper h pc instr k).calls) (emit_term_helper h pc instr k).flow r
+  compiled_helper h pc instr k {lent} {helper} r b q is =
+      rw q (is_compiled lent slot_offset _ helper.flow r (is ∙ handed_on lent (emit_inline product h pc instr) helper (rw q at (inline-apart h pc instr k b))))
 
   -- Zbb's emitter after the Rust's, which refused the instruction
-  pub zbb_compiled : (h : Host) (pc instr : ℕ) {d : Decoded32} (out r : Emitted) → d ≡ decode32 instr → instr % 4 ≡ 3
-      → answer out ≡ emitted (nothing slot_offset) (emit_native_instr pc instr d) → out.flow ≡ None
+  pub zbb_compiled : (h : Host) (pc instr : ℕ) {lent : ℕ} {d : Decoded32} (out r : Emitted) → d ≡ decode32 instr → instr % 4 ≡ 3
+      → answer out ≡ emitted (nothing lent slot_offset) (emit_native_instr pc instr d) → out.flow ≡ None
       → (find instr ≡ None → answer r ≡ unfit (held out.em))
-      → ((find instr ≡ None → ⊥) → answer r ≡ emitted (nothing (held out.em).slot_offset) (emission (find instr) instr))
-      → Compiled slot_offset (emit_inline product h pc instr).calls (emit_inline product h pc instr).flow r
+      → ((find instr ≡ None → ⊥) → answer r ≡ emitted (nothing (held out.em).lent (held out.em).slot_offset) (emission (find instr) instr))
+      → Compiled lent slot_offset (emit_inline product h pc instr).calls (emit_inline product h pc instr).flow r
   unfolding emit_inline zbb_of
-  zbb_compiled h pc instr {d} out r e wide is refused other zbb =
+  zbb_compiled h pc instr {lent} {d} out r e wide is refused other zbb =
       let rust = compiled_as (emit_native h pc instr) (native-size h pc instr) out (native32 h pc instr d e wide) is in
       let same : (held out.em).slot_offset ≡ slot_offset = ap (λ (x : Held). x.slot_offset) rust.holds in
+      let array : (held out.em).lent ≡ lent = ap (λ (x : Held). x.lent) rust.holds in
       let no_flow : (emit_native h pc instr).flow ≡ None = sym rust.flow ∙ refused in
       rw (eq-eqb (instr % 4) 3 wide)
-      (by_zbb (λ (x : Emission). Compiled slot_offset x.calls x.flow r) (find instr) instr (emit_native h pc instr)
-      (λ f. compiled_as (emission (find instr) instr) (zbb_fits instr f) r refl (rw same at (zbb f)))
-      (λ f. is_compiled slot_offset (emit_native h pc instr).calls (emit_native h pc instr).flow r (rw no_flow (rw rust.holds at (other f)))))
+      (by_zbb (λ (x : Emission). Compiled lent slot_offset x.calls x.flow r) (find instr) instr (emit_native h pc instr)
+      (λ f. compiled_as (emission (find instr) instr) (zbb_fits instr f) r refl (rw (same, array) at (zbb f)))
+      (λ f. is_compiled lent slot_offset (emit_native h pc instr).calls (emit_native h pc instr).flow r (rw no_flow (rw rust.holds at (other f)))))
     where
       zbb_fits : (w : ℕ) → (find w ≡ None → ⊥) → size slot_offset (emission (find w) w).calls ≤ inline_words
       zbb_fits w f = (zbb_size slot_offset w).within

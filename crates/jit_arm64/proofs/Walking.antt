@@ -175,7 +175,7 @@ module _ {h : Host} {guest : List ℕ} {start limit k₀ : ℕ} {l : List ℕ} {
         with few = (appended few).holds ∙ ap (λ (us : List ℕ). us ++ words h.slot_offset cs) v.holds ∙ sym (words_append h.slot_offset v.calls cs)
 
       -- inline words
-      module _ {out : Emitted} (c : Compiled h.slot_offset e.calls e.flow out) {l' : List ℕ} {len' : ℕ} (same : length l' ≡ length l) (added : Added l len l' len' (held out.em).words) where
+      module _ {lent : ℕ} {out : Emitted} (c : Compiled lent h.slot_offset e.calls e.flow out) {l' : List ℕ} {len' : ℕ} (same : length l' ≡ length l) (added : Added l len l' len' (held out.em).words) where
         few : length (words h.slot_offset e.calls) ≤ inline_words
         few = omega (arith, words_size h.slot_offset e.calls, inline-size h.slot_offset h pc instr)
 
@@ -232,8 +232,8 @@ module _ {h : Host} {guest : List ℕ} {start limit k₀ : ℕ} {l : List ℕ} {
             (record { holds = with e.calls (words_are c) same added (omega arith) ∙ rw (append-nil e.calls) refl; count = next; stop = refl; pc = refl; fence = refl; few = omega arith; room = let z = same in omega arith }))
 
       -- what the inline emitter left, and the helper's words
-      module _ {out left : Emitted} (i₀ : Compiled h.slot_offset e.calls e.flow left) (none : left.flow ≡ None)
-          (c : Compiled h.slot_offset (e.calls ++ helper.calls) helper.flow out) {l' : List ℕ} {len' : ℕ} (same : length l' ≡ length l) (added : Added l len l' len' (held out.em).words) where
+      module _ {lent first : ℕ} {out left : Emitted} (i₀ : Compiled first h.slot_offset e.calls e.flow left) (none : left.flow ≡ None)
+          (c : Compiled lent h.slot_offset (e.calls ++ helper.calls) helper.flow out) {l' : List ℕ} {len' : ℕ} (same : length l' ≡ length l) (added : Added l len l' len' (held out.em).words) where
         abbrev both : List Call
         both = e.calls ++ helper.calls
 

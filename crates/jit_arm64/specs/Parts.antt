@@ -30,12 +30,12 @@ pub record FetchedOf (f : Option ℕ) (r : Read) : Type 0 where
   pub found : r ≡ fetched f
   pub narrow : IfSome r (λ x. Narrow x.instr)
 
--- the words of calls alone in an emitter, and with the flow
-abbrev pub alone : ℕ → List Call → Held
-alone slot_offset cs = record { words = words slot_offset cs; slot_offset = slot_offset }
+-- the words of calls alone in the emitter of an array that is lent, and with the flow
+abbrev pub alone : ℕ → ℕ → List Call → Held
+alone lent slot_offset cs = record { words = words slot_offset cs; slot_offset = slot_offset; lent = lent }
 
-pub record Compiled (slot_offset : ℕ) (cs : List Call) (f : Flow) (r : Emitted) : Type 0 where
-  pub holds : held r.em ≡ alone slot_offset cs
+pub record Compiled (lent slot_offset : ℕ) (cs : List Call) (f : Flow) (r : Emitted) : Type 0 where
+  pub holds : held r.em ≡ alone lent slot_offset cs
   pub flow : r.flow ≡ f
 
 -- the answer where an instruction is not inline, of an emitter that holds h

@@ -59,7 +59,7 @@ fn may_be_zbb(instr: u32) -> bool
 // Zbb's words in the place of those that the Rust's emitter left; these stay where it is no Zbb instruction.
 fn emit_zbb(mut em: InstrEmitter<'_>, instr: u32) -> Emitted<'_>
     ensures other { find instr ≡ None → answer result ≡ unfit (held em.entry) }
-    ensures zbb { (find instr ≢ None) → answer result ≡ emitted (nothing (held em.entry).slot_offset) (emission (find instr) instr) }
+    ensures zbb { (find instr ≢ None) → answer result ≡ emitted (nothing (held em.entry).lent (held em.entry).slot_offset) (emission (find instr) instr) }
 {
     let len = em.len;
     em.len = 0;
@@ -80,9 +80,9 @@ fn emit_zbb(mut em: InstrEmitter<'_>, instr: u32) -> Emitted<'_>
 // offset, and refuses by 1.
 fn emit_native(part: &mut [u32; INSTR_WORDS], host: Host, pc: u64, instr: u32) -> Emitted<'_>
     requires { (host.slot_offset ≤ max_slot_offset) × Narrow instr }
-    ensures { Compiled host.slot_offset (emit_inline product host pc instr).calls (emit_inline product host pc instr).flow result }
+    ensures { Compiled part.entry.ghost_name host.slot_offset (emit_inline product host pc instr).calls (emit_inline product host pc instr).flow result }
 {
-    let em = InstrEmitter::new(part, host.slot_offset);
+    let em = InstrEmitter::new(part).with_slots(host.slot_offset);
     if instr % 4 != 3 {
         let low = (instr % 0x1_0000) as u16;
         return instr16::emit_native_instr16(em, host.ignore_ebreak, pc, low);
@@ -103,8 +103,8 @@ fn emit_term_helper(
     instr: u32,
     emitted: u32,
 ) -> Emitted<'_>
-    requires { Narrow instr × (emitted ≤ max_instrs) × (held em ≡ alone host.slot_offset (emit_inline product host pc instr).calls) }
-    ensures { Compiled host.slot_offset ((emit_inline product host pc instr).calls ++ (emit_term_helper host pc instr emitted).calls) (emit_term_helper host pc instr emitted).flow result }
+    requires { Narrow instr × (emitted ≤ max_instrs) × (held em ≡ alone (held em).lent host.slot_offset (emit_inline product host pc instr).calls) }
+    ensures { Compiled (held em.entry).lent host.slot_offset ((emit_inline product host pc instr).calls ++ (emit_term_helper host pc instr emitted).calls) (emit_term_helper host pc instr emitted).flow result }
 {
     if instr % 4 != 3 {
         let low = (instr % 0x1_0000) as u16;

@@ -22,6 +22,7 @@ returns-in-None c =
     record {
       other = λ f.
           let e : c.emit_native_zbb-found.result.em.slot_offset ≡ c.args.em.slot_offset = ap (λ (x : Answer). x.held.slot_offset) (rw f at z.emits) in
-          c.none.ensures.answers ∙ rw (z.words_unchanged c.in-None.is, e) refl;
+          let lent : c.emit_native_zbb-found.result.em.words.ghost_name ≡ c.args.em.words.ghost_name = ap (λ (x : Answer). x.held.lent) (rw f at z.emits) in
+          c.none.ensures.answers ∙ rw (z.words_unchanged c.in-None.is, e, lent) refl;
       zbb = λ f. absurd (f (zbb_flow (find c.args.instr) c.args.instr (sym (flow_is c.emit_native_zbb-found.result _ z.emits) ∙ c.in-None.is)));
     }
