@@ -93,6 +93,7 @@ fn beyond(base: u64, len: u64) -> bool
 
 // A64 run from (document 02, No. 5): the words of `block` from the one numbered `first`;
 // `address` is that of word 0, and `memory` begins at `base`.
+// Kept: memory and base side by side, by the C interface; within the run `Machine` holds them.
 pub fn a64_run_from(
     block: &[u8],
     address: u64,

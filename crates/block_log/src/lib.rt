@@ -8,6 +8,7 @@ ghost use Rattle.block_log.specs.Log as L;
 pub const INDEX_BYTES: usize = 45056;
 
 // The bytes of an index.
+// Kept: slots by number in lent bytes, by the C interface and a rule of the project: no heap.
 pub type Index = [u8; INDEX_BYTES];
 
 pub const BUCKETS: usize = 2048;

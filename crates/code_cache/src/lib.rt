@@ -23,6 +23,7 @@ pub fn copy(store: &mut [u8], at: usize, code: &[u8])
     store[at..at + code.len()].copy_from_slice(code);
 }
 
+// Kept: store and used side by side, by the C interface.
 // The code goes to `used`, rounded up to a multiple of 4. Nothing overflows: what is left of the store is compared.
 #[tactic(auto, using(crate::proofs::Placing::beyond, crate::proofs::Placing::no_room, crate::proofs::Placing::room))]
 pub fn place(store: &mut [u8], used: u64, code: &[u8]) -> Result<Placed, Refusal>

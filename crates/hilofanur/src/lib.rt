@@ -23,6 +23,7 @@ use state_bytes::{a64_state, rv64_hart};
 
 // The refusal, 0 where the block was written; its length in bytes; its count of instructions; the number of its end
 // kind.
+// Kept: the refusal beside the values, here and in the six answers below, by the C interface.
 #[repr(C)]
 #[derive(Drop)]
 pub struct TranslateAnswer {

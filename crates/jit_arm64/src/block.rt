@@ -244,6 +244,7 @@ fn walk_array<const N: usize>(
 // The block from `start` on, of at most `most` instructions, in a short emitter: the words of its instructions, then
 // its end; or, where it is full, the words so far.
 // Kept: guest, start, most and host side by side, by a rule of the project: the Rust's parameters in its order.
+// Kept: an end here and below, no plainer as one: three lines, with the emitter, the walk and the PC handed over.
 pub fn compile_native_block(
     guest: &[u8],
     start: u64,
