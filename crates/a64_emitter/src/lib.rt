@@ -36,6 +36,7 @@ pub fn emit_at(words: &mut [u32], at: usize, w: u32) -> usize
 }
 
 // The same where the test holds.
+// Kept: a test as a parameter here and in three below, by a named form of document 01: a branch would copy the emitter.
 pub fn emit_at_if(words: &mut [u32], at: usize, test: bool, w: u32) -> usize
     ensures { Added words.old at words.new result (emitted_if «test» w) }
 {

@@ -75,6 +75,7 @@ pub struct Assembled {
     pub rest: Rest,
 }
 
+// Kept: no plainer as literals: each form is a row of five values.
 fn row(mnemonic: u64, first: u32, second: Option<u32>, third: Option<u32>, rest: Rest) -> Assembled
     ensures { result ≡ record { mnemonic = mnemonic; first = first; second = second; third = third; rest = rest } }
 {

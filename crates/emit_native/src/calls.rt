@@ -148,6 +148,7 @@ impl<'a> InstrEmitter<'a> {
     }
 
     // `Some(EmitFlow::Continue)`, `Some(EmitFlow::Terminate)` and `None`.
+    // Kept: three methods, no plainer with the flow as a parameter: an emitter's last call says what the block does.
     #[tactic(auto, unfolding(crate::specs::Parts::answer))]
     pub fn go_on(self) -> Emitted<'a>
         ensures { answer result ≡ emitted (held self.entry) (continue []) }

@@ -61,6 +61,7 @@ fn emit_quadrant_0(em: InstrEmitter<'_>, instr: u16) -> Emitted<'_>
 }
 
 // C.ADDI and C.NOP.
+// Kept: this and `emit_c_slli`, no plainer as one: register 0 is C.NOP here, and is refused there.
 #[tactic(auto, unfolding(crate::specs::Instr16::c_addi))]
 fn emit_c_addi(em: InstrEmitter<'_>, instr: u16) -> Emitted<'_>
     ensures { answer result ≡ emitted (held em.entry) (c_addi instr) }

@@ -28,6 +28,8 @@ pub enum Class {
 // Decisions on the number, after the rows of the ISA's opcode map, inst[6:5]. At most three opcodes to a `match`:
 // of more the compiler makes a table in read-only memory, which tools/readonly refuses.
 
+// Kept: a function for each row, no plainer as one: a row's opcodes are its own.
+
 // Row 00.
 #[tactic(auto, unfolding(crate::specs::Classes::class_of))]
 fn row_00(n: u32) -> Class

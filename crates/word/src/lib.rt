@@ -31,6 +31,7 @@ pub fn mulhu(x: u64, y: u64) -> u64
 }
 
 // Bits 127 to 64 of the product of a signed and an unsigned number.
+// Kept: this and `mulh`, no plainer as one: each is the one before with a correction of its own.
 #[tactic(auto, using(crate::proofs::Laws::mulhsu_positive, crate::proofs::Laws::mulhsu_negative))]
 pub fn mulhsu(x: u64, y: u64) -> u64
     ensures { result ≡ W.mulhsu x y }
