@@ -15,12 +15,14 @@ pub struct Placed {
 }
 
 // The bytes of `code` over those of `store` from `at` on.
-#[tactic(auto, unfolding(le::specs::Le::splice))]
+// Kept: a loop, by what may not change: an archive calls memcpy and memset alone, and copy_from_slice is a memmove.
 pub fn copy(store: &mut [u8], at: usize, code: &[u8])
     requires { at + length code.now ≤ length store.old }
     ensures { store.new ≡ splice store.old at code.now }
 {
-    store[at..at + code.len()].copy_from_slice(code);
+    for i in 0..code.len() {
+        store[at + i] = code[i];
+    }
 }
 
 // Kept: store and used side by side, by the C interface.
