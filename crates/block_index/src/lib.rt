@@ -98,19 +98,18 @@ fn start_for(m: &Index, size: u64, n: u64) -> u64
     last
 }
 
-// Whether byte a lies before the end of the bytes from start on.
-fn is_before_end(a: u64, start: u64, length: u64) -> bool
-    ensures { result ≡ ltb a (start + length) }
-{
-    a < start || a - start < length
-}
-
 // Whether the block at a slot shares a byte with those from start on.
 fn overlap_at(m: &Index, start: u64, length: u64, p: Slot) -> bool
     ensures { result ≡ I.overlap_at m.now start (start + length) p.number }
 {
     let other = block_log::entry_at(m, p);
-    is_before_end(other.start, start, length) && is_before_end(start, other.start, other.length)
+    if start < other.start {
+        return other.start - start < length;
+    }
+    if other.length <= start - other.start {
+        return false;
+    }
+    other.start < start || 0 < length
 }
 
 // Whether a new block evicts the one at a slot: it has its key or shares a byte.
