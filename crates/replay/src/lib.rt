@@ -1,7 +1,7 @@
 // What the programs share that replay recorded cases: reading a file of them, counting, and the report.
 #![tactic(auto)]
 
-ghost use Rattle.std.specs.Prelude.{◌≡◌, ◌≢◌, ◌+◌, ◌%◌, ◌^◌, ◌<◌, ◌≤◌, ◌++◌, min, length, take, drop, slice_index, if◌then◌else◌};
+ghost use Rattle.std.specs.Prelude.{◌≡◌, ◌≢◌, ◌+◌, ◌%◌, ◌^◌, ◌<◌, ◌≤◌, ◌++◌, min, length, take, drop, slice_index, if◌then◌else◌, true, false, Some, None};
 ghost use Rattle.le.specs.Le.{load};
 
 use std::fs::File;
@@ -123,6 +123,20 @@ impl Tally {
             self.wrong = self.wrong.wrapping_add(1);
         }
     }
+
+    // One case more where there is one, and whether there is: the file's end counts as nothing.
+    pub fn count_next(&mut self, case: Option<bool>) -> bool
+        ensures cases { case ≢ None → (result ≡ true) × (self.new.cases ≡ (self.old.cases + 1) % 2 ^ 32) }
+        ensures equal { case ≡ Some true → self.new.wrong ≡ self.old.wrong }
+        ensures differs { case ≡ Some false → self.new.wrong ≡ (self.old.wrong + 1) % 2 ^ 32 }
+        ensures end { case ≡ None → (result ≡ false) × (self.new ≡ self.old) }
+    {
+        let Some(equal) = case else {
+            return false;
+        };
+        self.count(equal);
+        true
+    }
 }
 
 // How many cases the file has, by its header; none where that begins with another number.
@@ -151,10 +165,9 @@ pub fn replay_cases<F: FnMut(&mut &[u8]) -> Option<bool>>(
 {
     let mut tally = Tally::default();
     for _ in 0..most {
-        let Some(equal) = replay_case(file) else {
+        if !tally.count_next(replay_case(file)) {
             break;
-        };
-        tally.count(equal);
+        }
     }
     tally
 }
