@@ -147,7 +147,8 @@ fn unlink(m: &mut Index, b: usize, p: Slot)
     le::store(m, q.at() + 32, next.number);
 }
 
-// The block at a slot is dropped: the slot is a tombstone, and in no chain.
+// The block at a slot is dropped: the slot is a tombstone, and in no chain. A sweep passes by most slots.
+#[cold]
 pub fn drop_at(m: &mut Index, p: Slot)
     ensures { m.new ≡ L.dropped m.old p.number }
 {

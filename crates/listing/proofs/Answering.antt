@@ -1,16 +1,16 @@
 -- What List gives in each of its cases. Assumes nothing.
 use mathlib.Core.Path.{◌≡◌, refl, ◌∙◌}
 use mathlib.Core.Bool.{true, false}
-use mathlib.Core.List.{List, ◌++◌}
+use mathlib.Core.List.{List, [], ◌∷◌, ◌++◌}
 use Prim.Native.Nat.{ℕ, ◌+◌, ◌*◌, ◌/◌, ◌%◌, ◌^◌, ◌≤◌, ◌<◌}
 use native.Mathlib.Nat.{zero-add}
 use native.Mathlib.Omega.{arith}
 use lib.ListN.{length, drop}
 use borrow.Author.Tests.{ne_eqb, eq-eqb, lt-ltb, le-ltb}
 use Rattle.rules.specs.Limits.{longest_line}
-use Rattle.le.specs.Le.{words, splice}
+use Rattle.le.specs.Le.{words, numbers, splice}
 use Rattle.ascii.specs.Parts.{Put}
-use Rattle.listing.specs.Listing.{Listed, block_lines, listing, any_outside, result, list, Outside, Lists}
+use Rattle.listing.specs.Listing.{Listed, lines, block_lines, listing, any_outside, result, list, Outside, Lists}
 use Rattle.listing.proofs.Lines.{rewritten}
 use Rattle.listing.proofs.Bound.{listing_bound}
 
@@ -75,3 +75,9 @@ module _ (block output : List ℕ) where
               fields = λ q. rewritten 0 (words block) inside;
               enough = λ l q. omega arith;
             }
+
+-- a block of no word
+pub no_word : (block output : List ℕ) → length block ≡ 0 → Lists block output (answer block output 0 0 0) output
+unfolding splice listing any_outside lines numbers
+no_word [] output e = listed [] output refl (omega arith) refl output 0 (record { written = refl; next = refl; room = omega arith })
+no_word (x ∷ xs) output e = absurd (omega arith)

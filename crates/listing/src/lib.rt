@@ -100,6 +100,10 @@ pub fn list(block: &[u8], output: &mut [u8]) -> Result<usize, ListRefusal>
     if block.len() % 4 != 0 || block.len() > 0x1_0000_0000 {
         return Err(ListRefusal::Length);
     }
+    // no word: nothing to measure
+    if block.len() == 0 {
+        return Ok(0);
+    }
     if let Some(offset) = first_outside(block) {
         return Err(ListRefusal::OutsideForms(offset));
     }

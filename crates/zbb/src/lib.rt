@@ -47,7 +47,8 @@ fn picked(em: InstrEmitter<'_>, instr: u32, condition: u8) -> Emitted<'_>
     two(em, instr, A64Emitter::cmp_x(9, 10), w)
 }
 
-// ROLW, RORW, by the shift of the low bits of X10 and the shift back.
+// ROLW, RORW, by the shift of the low bits of X10 and the shift back. In its callers, as `emit_ones` is.
+#[inline(always)]
 fn rotated(em: InstrEmitter<'_>, instr: u32, there: u32, back: u32) -> Emitted<'_>
     ensures { answer result ≡ emitted (held em.entry) (around (operands instr) (W.rotated there back) instr) }
 {

@@ -57,6 +57,8 @@ pub fn emit_trailing(em: InstrEmitter<'_>) -> InstrEmitter<'_>
 }
 
 // X11 is how many ones X9 has, by the mask sequence: of two bits, of four, of a byte, and of all bytes.
+// In its callers, where the compiler knows the count: elsewhere it would ask before each word whether that fits.
+#[inline(always)]
 pub fn emit_ones(em: InstrEmitter<'_>) -> InstrEmitter<'_>
     ensures { held result ≡ after (held em.entry) ones }
 {
