@@ -12,7 +12,8 @@ use rules::INSTR_WORDS;
 impl<'a> InstrEmitter<'a> {
     #[tactic(auto, unfolding(crate::specs::Parts::held))]
     pub fn new(words: &'a mut [u32; INSTR_WORDS]) -> Self
-        ensures { held result ≡ nothing words.entry.ghost_name 0 }
+        ensures held { held result ≡ nothing words.entry.ghost_name 0 }
+        ensures words_unchanged { result.words.now ≡ words.entry.now }
     {
         InstrEmitter {
             words,
@@ -25,7 +26,8 @@ impl<'a> InstrEmitter<'a> {
     #[tactic(auto, unfolding(crate::specs::Parts::held))]
     pub fn with_slots(self, slot_offset: u64) -> Self
         requires { slot_offset ≤ max_slot_offset }
-        ensures { held result ≡ at_slots slot_offset (held self.entry) }
+        ensures held { held result ≡ at_slots slot_offset (held self.entry) }
+        ensures words_unchanged { result.words.now ≡ self.entry.words.now }
     {
         let InstrEmitter { words, len, .. } = self;
         InstrEmitter {
@@ -128,6 +130,7 @@ impl<'a> InstrEmitter<'a> {
     }
 
     // Guest register rs and a constant into X9 and X10, the word of a form on them, and X11 into guest register rd.
+    #[inline(always)]
     pub fn with_imm(self, rs: u8, imm: u64, w: u32, rd: u8) -> Self
         requires { (rs < 32) × (rd < 32) }
         ensures { held result ≡ after (held self.entry) (Call.load 9 rs ∷ Call.mov_imm64 10 imm ∷ Call.emit w ∷ Call.store 11 rd ∷ []) }
@@ -151,7 +154,8 @@ impl<'a> InstrEmitter<'a> {
     // Kept: three methods, no plainer with the flow as a parameter: an emitter's last call says what the block does.
     #[tactic(auto, unfolding(crate::specs::Parts::answer))]
     pub fn go_on(self) -> Emitted<'a>
-        ensures { answer result ≡ emitted (held self.entry) (continue []) }
+        ensures answers { answer result ≡ emitted (held self.entry) (continue []) }
+        ensures words_unchanged { result.em.words.now ≡ self.entry.words.now }
     {
         Emitted {
             em: self,
@@ -161,7 +165,8 @@ impl<'a> InstrEmitter<'a> {
 
     #[tactic(auto, unfolding(crate::specs::Parts::answer))]
     pub fn terminate(self) -> Emitted<'a>
-        ensures { answer result ≡ emitted (held self.entry) (terminate []) }
+        ensures answers { answer result ≡ emitted (held self.entry) (terminate []) }
+        ensures words_unchanged { result.em.words.now ≡ self.entry.words.now }
     {
         Emitted {
             em: self,

@@ -9,4 +9,4 @@ returns-then-imm-eq0 c = rw (imm_addi4spn_is c.args.instr, ← c.imm_ciw-imm.ens
 
 pub returns : goal.returns
 unfolding addi4spn
-returns c = rw (imm_addi4spn_is c.args.instr, ← c.imm_ciw-imm.ensures, ne_eqb _ _ c.if-imm-eq0.false, c.go_on.ensures, c.with_imm.ensures, c.add_x-w.ensures, c.low_prime.ensures.0)
+returns c = rw (imm_addi4spn_is c.args.instr, ← c.imm_ciw-imm.ensures, ne_eqb _ _ c.if-imm-eq0.false, c.go_on.ensures.answers, c.with_imm.ensures, c.add_x-w.ensures, c.low_prime.ensures.0)

@@ -9,4 +9,4 @@ returns-then-imm-eq0 c = rw (imm_addi16sp_is c.args.instr, ← c.imm_ci16-imm.en
 
 pub returns : goal.returns
 unfolding c_addi16sp
-returns c = rw (imm_addi16sp_is c.args.instr, ← c.imm_ci16-imm.ensures, ne_eqb _ _ c.if-imm-eq0.false, c.go_on.ensures, c.with_imm.ensures, c.add_x-w.ensures)
+returns c = rw (imm_addi16sp_is c.args.instr, ← c.imm_ci16-imm.ensures, ne_eqb _ _ c.if-imm-eq0.false, c.go_on.ensures.answers, c.with_imm.ensures, c.add_x-w.ensures)

@@ -4,4 +4,4 @@ use Rattle.instr16.proofs.emit_c_li.Goals as goal
 
 pub returns : goal.returns
 unfolding c_li
-returns c = rw (imm_ci_is c.args.instr, c.go_on.ensures, c.mov_reg.ensures, c.imm_ci.ensures, c.rd_of.ensures.0)
+returns c = rw (imm_ci_is c.args.instr, c.go_on.ensures.answers, c.mov_reg.ensures, c.imm_ci.ensures, c.rd_of.ensures.0)

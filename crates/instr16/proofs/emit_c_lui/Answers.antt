@@ -9,4 +9,4 @@ returns-then-imm-eq0 c = rw (← c.rd_of-rd.ensures.0, imm_ci_is c.args.instr, �
 
 pub returns : goal.returns
 unfolding c_lui
-returns c = rw (← c.rd_of-rd.ensures.0, imm_ci_is c.args.instr, ← c.imm_ci-imm.ensures, ne_eqb _ _ c.if-rd-eq0.false, ne_eqb _ _ c.if-imm-eq0.false, c.go_on.ensures, c.store.ensures, c.mov_imm64.ensures)
+returns c = rw (← c.rd_of-rd.ensures.0, imm_ci_is c.args.instr, ← c.imm_ci-imm.ensures, ne_eqb _ _ c.if-rd-eq0.false, ne_eqb _ _ c.if-imm-eq0.false, c.go_on.ensures.answers, c.store.ensures, c.mov_imm64.ensures)

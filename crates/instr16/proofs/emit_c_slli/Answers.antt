@@ -5,4 +5,4 @@ use Rattle.instr16.proofs.emit_c_slli.Goals as goal
 
 pub returns : goal.returns
 unfolding c_slli
-returns c = rw (← c.rd_of-rd.ensures.0, shamt_is c.args.instr, ne_eqb _ _ c.if-rd-eq0.false, c.go_on.ensures, c.with_imm.ensures, c.lslv_x-w.ensures, c.shamt_c.ensures)
+returns c = rw (← c.rd_of-rd.ensures.0, shamt_is c.args.instr, ne_eqb _ _ c.if-rd-eq0.false, c.go_on.ensures.answers, c.with_imm.ensures, c.lslv_x-w.ensures, c.shamt_c.ensures)

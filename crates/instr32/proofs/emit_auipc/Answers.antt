@@ -4,4 +4,4 @@ use Rattle.instr32.proofs.emit_auipc.Goals as goal
 
 pub returns : goal.returns
 unfolding auipc
-returns c = rw (imm_u_is c.args.instr c.ranges.instr.fits, c.go_on.ensures, c.mov_reg.ensures, c.imm_u.ensures)
+returns c = rw (imm_u_is c.args.instr c.ranges.instr.fits, c.go_on.ensures.answers, c.mov_reg.ensures, c.imm_u.ensures)

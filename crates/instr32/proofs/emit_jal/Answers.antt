@@ -12,5 +12,5 @@ pub returns : goal.returns
 unfolding jal
 returns c =
     let a = c.args in
-    rw (c.terminate.ensures, c.mov_imm64.ensures, c.mov_reg-em.ensures, c.imm_j.ensures, ← imm_j_is a.instr c.ranges.instr.fits)
+    rw (c.terminate.ensures.answers, c.mov_imm64.ensures, c.mov_reg-em.ensures, c.imm_j.ensures, ← imm_j_is a.instr c.ranges.instr.fits)
     (first (held a.em) (if_not_0 a.d.rd (mov_imm64 11 (add a.pc 4) ∷ store 11 a.d.rd ∷ [])) (terminate (mov_imm64 0 (add a.pc (imm_j a.instr)) ∷ [])))
