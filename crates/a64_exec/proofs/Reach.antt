@@ -1,9 +1,11 @@
--- Where an access goes, from where its address lies. Assumes nothing.
+-- Where an access goes, from where its address lies; a form's effect, from what it leaves. Assumes nothing.
 use Rattle.std.proofs.Common.{Option, Some, None, ◌≡◌, ℕ, ◌+◌, ◌*◌, ◌%◌, ◌^◌, true, not, ◌||◌, eqb, length, sym, add-zero, zero-add, zero-mul, eq-eqb, ne_eqb}
 use mathlib.Core.Bool.{and-true, and-false}
 use native.Mathlib.Nat.{zero-mod, zero-div}
 use Rattle.word.specs.Word.{wrap}
-use Rattle.a64_exec.specs.Exec.{State, reg, address, reaches}
+use Rattle.a64.specs.declared.Form.{Form}
+use Rattle.a64_exec.specs.declared.exec.Outcome.{Outcome}
+use Rattle.a64_exec.specs.Exec.{State, reg, with_reg, after, next, exec, address, reaches}
 use Rattle.a64_alu.specs.Alu.{insert}
 use Rattle.a64_alu.proofs.Comparing.{difference-sub}
 use Rattle.a64_exec.specs.Parts.{Within, Reached}
@@ -28,6 +30,11 @@ module _ (s : State) (n imm : ℕ) where
   pub misaligned_sp : n ≡ 31 → (s.sp % 16 ≡ 0 → ⊥) → Reached s n imm None
   unfolding reaches
   misaligned_sp h k = rw (eq-eqb n 31 h, ne_eqb (s.sp % 16) 0 k) (simp and-false)
+
+-- a form that leaves v in register rd, and no more
+pub by_result : (f : Form) (s t : State) (rd v : ℕ) (o : Outcome) → exec f s ≡ next (with_reg s rd v)
+    → (o ≡ Outcome.Next) × (t ≡ with_reg s rd v) → exec f s ≡ after o t
+by_result f s t rd v o e h = rw (h.0, h.1) e
 
 -- MOVZ is MOVK into 0
 pub insert-zero : (hw v : ℕ) → insert 0 hw v ≡ v * 2 ^ (16 * hw)

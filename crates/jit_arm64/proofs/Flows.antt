@@ -8,6 +8,12 @@ use Rattle.jit_arm64.specs.declared.block.Stop.{Stop}
 use Rattle.jit_arm64.specs.declared.block.Stop.TheVariants.{Limit, Ended, Helper, Uncovered, NotFetched}
 use Rattle.jit_arm64.specs.Parts.{sets_next, has_return, helped_count, helped_stop, is_full}
 
+-- neither None nor Terminate
+pub goes_on : (f : Flow) → (f ≡ None → ⊥) → (f ≡ Some Terminate → ⊥) → f ≡ Some Continue
+goes_on None a b = absurd (a refl)
+goes_on (Some Continue) a b = refl
+goes_on (Some Terminate) a b = absurd (b refl)
+
 -- not Terminate
 pub continues : (f : EmitFlow) → (f ≡ Terminate → ⊥) → f ≡ Continue
 continues Continue a = refl

@@ -12,13 +12,13 @@ pub returns-then-instr-ne3 : goal.returns-then-instr-ne3
 returns-then-instr-ne3 c = let a = c.args in
     let w = c.if-instr-ne3.true in
     let n = c.requires.1 w in
-    inline_compiled a.host.slot_offset a.host a.pc a.instr _ (inline16 a.host a.pc a.instr _ (omega arith) w) (rw (c.with_slots-em.ensures, c.new.ensures) at c.emit_native_instr16.ensures)
+    inline_compiled a.host.slot_offset a.host a.pc a.instr _ (inline16 a.host a.pc a.instr _ (omega arith) w) (rw (c.with_slots-em.ensures.held, c.new.ensures.held) at c.emit_native_instr16.ensures)
 
 pub returns-then-may_be_zbb : goal.returns-then-may_be_zbb
 returns-then-may_be_zbb c = let a = c.args in
     let w = c.if-instr-ne3.false in
     let refused = is_refused _ c.is_none.ensures c.if-is_none.true in
-    zbb_compiled a.host.slot_offset a.host a.pc a.instr c.emit_native_instr-out.result _ c.decode32-d.ensures (omega arith) (rw (c.with_slots-em.ensures, c.new.ensures) at c.emit_native_instr-out.ensures) refused c.emit_zbb.ensures.other c.emit_zbb.ensures.zbb
+    zbb_compiled a.host.slot_offset a.host a.pc a.instr c.emit_native_instr-out.result _ c.decode32-d.ensures (omega arith) (rw (c.with_slots-em.ensures.held, c.new.ensures.held) at c.emit_native_instr-out.ensures) refused c.emit_zbb.ensures.other c.emit_zbb.ensures.zbb
 
 -- the Rust refused, by an opcode that is none of Zbb's, or it did not refuse, so that this is no Zbb instruction
 pub returns : goal.returns
@@ -31,4 +31,4 @@ returns c = let a = c.args in
       | else-is_none-via-else-is_none s ↦
           is_nothing (find a.instr) (λ f. is_taken _ c.is_none.ensures s.if-is_none.false (flow_is _ _ e ∙ rw d (rust_refuses a.pc a.instr (omega arith) f)))
     ] in
-    inline_compiled a.host.slot_offset a.host a.pc a.instr _ (inline-rust a.host a.pc a.instr (omega arith) n ∙ native32 a.host a.pc a.instr _ d (omega arith)) (rw (c.with_slots-em.ensures, c.new.ensures) at e)
+    inline_compiled a.host.slot_offset a.host a.pc a.instr _ (inline-rust a.host a.pc a.instr (omega arith) n ∙ native32 a.host a.pc a.instr _ d (omega arith)) (rw (c.with_slots-em.ensures.held, c.new.ensures.held) at e)
