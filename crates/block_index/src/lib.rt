@@ -1,7 +1,7 @@
 // The index of blocks by address space and PC (document 02, No. 2), in bytes that are lent; block_log has their layout.
 #![tactic(auto)]
 
-ghost use Rattle.std.specs.Prelude.{◌≡◌, ◌≢◌, ◌+◌, ◌≤◌, ◌<◌, ltb, MatchOption};
+ghost use Rattle.std.specs.Prelude.{◌≡◌, ◌≢◌, ◌+◌, ◌-◌, ◌^◌, ◌≤◌, ◌<◌, min, ltb, MatchOption};
 ghost use Rattle.block_log.specs.Log as L;
 ghost use Rattle.block_index.specs.Model as Model;
 ghost use Rattle.block_index.specs.Index as I;
@@ -98,13 +98,19 @@ fn start_for(m: &Index, size: u64, n: u64) -> u64
     last
 }
 
-// Whether the block at a slot shares a byte with those from start on.
-fn overlap_at(m: &Index, start: u64, length: u64, p: Slot) -> bool
+// Whether the block at a slot shares a byte with those from start on, of which the last is given: a block after it is
+// passed by one comparison.
+// Kept: the clause on `last` here and below, no plainer as a type: it would hold the entry and be built once.
+fn overlap_at(m: &Index, start: u64, length: u64, last: u64, p: Slot) -> bool
+    requires { last ≡ min (start + (length - 1)) (2 ^ 64 - 1) }
     ensures { result ≡ I.overlap_at m.now start (start + length) p.number }
 {
     let other = block_log::entry_at(m, p);
+    if last < other.start {
+        return false;
+    }
     if start < other.start {
-        return other.start - start < length;
+        return true;
     }
     if other.length <= start - other.start {
         return false;
@@ -113,14 +119,16 @@ fn overlap_at(m: &Index, start: u64, length: u64, p: Slot) -> bool
 }
 
 // Whether a new block evicts the one at a slot: it has its key or shares a byte.
-fn evicts(m: &Index, e: Entry, p: Slot) -> bool
+fn evicts(m: &Index, e: Entry, last: u64, p: Slot) -> bool
+    requires { last ≡ min (e.start + (e.length - 1)) (2 ^ 64 - 1) }
     ensures { result ≡ I.evicts m.now e p.number }
 {
-    key_at(m, e.space, e.pc, p) || overlap_at(m, e.start, e.length, p)
+    key_at(m, e.space, e.pc, p) || overlap_at(m, e.start, e.length, last, p)
 }
 
 // Drops the block at a slot if it is evicted or there is no room for it; for how many others there is room then.
-fn sweep_at(m: &mut Index, e: Entry, room: u64, p: Slot) -> u64
+fn sweep_at(m: &mut Index, e: Entry, last: u64, room: u64, p: Slot) -> u64
+    requires { last ≡ min (e.start + (e.length - 1)) (2 ^ 64 - 1) }
     ensures { (m.new ≡ I.swept_at m.old e room p.number) × (result ≡ I.room_at m.old e room p.number) }
 {
     if block_log::entry_at(m, p).length == 0 {
@@ -130,7 +138,7 @@ fn sweep_at(m: &mut Index, e: Entry, room: u64, p: Slot) -> u64
         block_log::drop_at(m, p);
         return room;
     }
-    if evicts(m, e, p) {
+    if evicts(m, e, last, p) {
         block_log::drop_at(m, p);
         return room;
     }
@@ -142,9 +150,11 @@ fn sweep_at(m: &mut Index, e: Entry, room: u64, p: Slot) -> u64
 fn sweep(m: &mut Index, e: Entry, room: u64) -> u64
     ensures { (m.new ≡ I.swept m.old e room (L.used m.old)) × (result ≡ I.room_left m.old e room (L.used m.old)) }
 {
+    // the last byte that the new block takes, in the whole of 64 bits
+    let last = e.start.saturating_add(e.length.saturating_sub(1));
     let mut room = room;
     for p in (1..=block_log::used(m).number).rev() {
-        room = sweep_at(m, e, room, Slot { number: p });
+        room = sweep_at(m, e, last, room, Slot { number: p });
     }
     room
 }
