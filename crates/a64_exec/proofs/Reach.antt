@@ -1,5 +1,5 @@
 -- Where an access goes, from where its address lies; a form's effect, from what it leaves. Assumes nothing.
-use Rattle.std.proofs.Common.{Option, Some, None, ◌≡◌, ℕ, ◌+◌, ◌*◌, ◌%◌, ◌^◌, true, not, ◌||◌, eqb, length, sym, add-zero, zero-add, zero-mul, eq-eqb, ne_eqb}
+use Rattle.std.proofs.Common.{Option, Some, None, ◌≡◌, ℕ, ◌+◌, ◌*◌, ◌%◌, ◌^◌, true, not, ◌||◌, eqb, length, length-set, refl, sym, add-zero, zero-add, zero-mul, eq-eqb, ne_eqb}
 use mathlib.Core.Bool.{and-true, and-false}
 use native.Mathlib.Nat.{zero-mod, zero-div}
 use Rattle.word.specs.Word.{wrap}
@@ -33,8 +33,9 @@ module _ (s : State) (n imm : ℕ) where
 
 -- a form that leaves v in register rd, and no more
 pub by_result : (f : Form) (s t : State) (rd v : ℕ) (o : Outcome) → exec f s ≡ next (with_reg s rd v)
-    → (o ≡ Outcome.Next) × (t ≡ with_reg s rd v) → exec f s ≡ after o t
-by_result f s t rd v o e h = rw (h.0, h.1) e
+    → (o ≡ Outcome.Next) × (t ≡ with_reg s rd v)
+    → (exec f s ≡ after o t) × (length t.x ≡ length s.x) × (length t.mem ≡ length s.mem)
+by_result f s t rd v o e h = (rw (h.0, h.1) e, rw h.1 (length-set s.x rd v), rw h.1 refl)
 
 -- MOVZ is MOVK into 0
 pub insert-zero : (hw v : ℕ) → insert 0 hw v ≡ v * 2 ^ (16 * hw)
